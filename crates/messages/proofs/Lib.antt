@@ -1,0 +1,5 @@
+pub mod Numbers
+pub mod Steps
+pub mod Canonical
+pub mod RoundTrip
+pub mod Written

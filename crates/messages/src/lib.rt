@@ -1,0 +1,4 @@
+pub mod event;
+pub mod fault;
+pub mod reader;
+pub mod writer;
