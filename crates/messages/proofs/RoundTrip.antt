@@ -20,7 +20,7 @@ use Rattle.messages.specs.Encode.{sideByte, flagByte, encode, Whole}
 use Rattle.messages.specs.Field.{size, standsAt}
 use Rattle.messages.specs.Message.{Message}
 use Rattle.messages.proofs.Numbers.{quad-there, pair-there}
-use Rattle.messages.proofs.Steps.{Answer, field-first, field-later, enough, decode-within, size-positive, encode-size}
+use Rattle.messages.proofs.Steps.{Answer, field-first, field-later, enough, decode-within, size-least, encode-size}
 
 -- a mark is read as what it marks
 mark-side : (side : Side) (next : Side → Answer) → mark (sideByte side) Buy Sell next ≡ next side
@@ -68,5 +68,5 @@ message-reads place bytes event m =
     let more : List ℕ = drop (size event) bs in
     let parts : bs ≡ encode event ++ more = sym (take-append-drop (size event) bs) ∙ ap (λ l. l ++ more) (m .same) in
     let long : length bs ≡ size event + length more = ap length parts ∙ length-append (encode event) more ∙ ap (λ n. n + length more) (encode-size event) in
-    let within : place < length bytes = omega (arith, length-drop place bytes, size-positive event) in
+    let within : place < length bytes = omega (arith, length-drop place bytes, size-least event) in
     decode-within place bytes within ∙ ap some (ap (field place) parts ∙ reads-field place more event (m .whole) (m .known))

@@ -52,20 +52,21 @@ enough n bs answer h = cond-yes (leb n (length bs)) _ _ (le-leb n (length bs) h)
 pub decode-within : (place : ℕ) (bytes : List ℕ) → place < length bytes → decode place bytes ≡ some (field place (drop place bytes))
 decode-within place bytes h = cond-no (leb (length bytes) place) _ _ (lt-leb (length bytes) place h)
 
--- it is not
+-- the place is at the end
 pub decode-end : (place : ℕ) (bytes : List ℕ) → length bytes ≤ place → decode place bytes ≡ Ok None
 decode-end place bytes h = cond-yes (leb (length bytes) place) _ _ (le-leb (length bytes) place h)
 
 pub decode-at : (place : ℕ) (bytes : List ℕ) (r : Answer) → place < length bytes → r ≡ field place (take (length bytes - place) (drop place bytes)) → some r ≡ decode place bytes
 decode-at place bytes r h e = ap some (e ∙ ap (field place) (to-end place bytes)) ∙ sym (decode-within place bytes h)
 
-pub size-positive : (event : Event) → 0 < size event
-size-positive (Figures user input output nomination) = omega arith
-size-positive (Trade seller buyer quantity) = omega arith
-size-positive (Action user side locational quantity price) = omega arith
-size-positive Close = omega arith
-size-positive (Reconcile user day quantity) = omega arith
-size-positive (Opening users d a1 a2 a3 a4 a5 a6 a7) = omega arith
+-- a field has a tag and a length at least
+pub size-least : (event : Event) → 3 ≤ size event
+size-least (Figures user input output nomination) = omega arith
+size-least (Trade seller buyer quantity) = omega arith
+size-least (Action user side locational quantity price) = omega arith
+size-least Close = omega arith
+size-least (Reconcile user day quantity) = omega arith
+size-least (Opening users d a1 a2 a3 a4 a5 a6 a7) = omega arith
 
 pub encode-size : (event : Event) → length (encode event) ≡ size event
 encode-size (Figures user input output nomination) = refl
@@ -76,4 +77,4 @@ encode-size (Reconcile user day quantity) = refl
 encode-size (Opening users d a1 a2 a3 a4 a5 a6 a7) = refl
 
 pub falls-by : (place : ℕ) (bytes : List ℕ) (event : Event) (n : ℕ) → place < length bytes → n ≡ size event → length bytes - (place + n) < length bytes - place
-falls-by place bytes event n h e = omega (arith, size-positive event)
+falls-by place bytes event n h e = omega (arith, size-least event)

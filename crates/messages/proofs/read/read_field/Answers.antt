@@ -8,7 +8,7 @@ use Rattle.messages.specs.Message.{Message}
 use Rattle.messages.proofs.Canonical.{field-message}
 use Rattle.messages.proofs.RoundTrip.{reads-field}
 use Rattle.messages.proofs.Steps.{to-end, field-at}
-use Rattle.messages.proofs.reader.read_field.Needs as need
+use Rattle.messages.proofs.read.read_field.Needs as need
 
 pub returns : need.returns
 returns c =

@@ -1,0 +1,5 @@
+// What a run of bytes says, line by line.
+pub mod line;
+pub mod lines;
+pub mod listing;
+pub mod text;
