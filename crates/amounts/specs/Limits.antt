@@ -17,12 +17,12 @@ abbrev pub isQuantity : ℤ → Bool
 isQuantity z = between (pos 1) (pos 1000000) z
 
 -- the quantity of a reconciliation: either way, and not 0
-abbrev pub isReconciled : ℤ → Bool
-isReconciled z = between (negsuc 999999) (negsuc 0) z || between (pos 1) (pos 1000000) z
+abbrev pub isReconciliation : ℤ → Bool
+isReconciliation z = between (negsuc 999999) (negsuc 0) z || between (pos 1) (pos 1000000) z
 
 -- an offer price, an average or a fixed price
-abbrev pub isOffer : ℤ → Bool
-isOffer z = between (pos 0) (pos 1000000) z
+abbrev pub isInLimit : ℤ → Bool
+isInLimit z = between (pos 0) (pos 1000000) z
 
 -- a default price
 abbrev pub isDefault : ℤ → Bool

@@ -1,6 +1,6 @@
 // The limits of the subject, and the tests against them.
 ghost use mathlib.Core.Path.{_≡_};
-ghost use Rattle.amounts.specs.Limits.{isFigure, isQuantity, isReconciled, isOffer, isDefault, isBalance};
+ghost use Rattle.amounts.specs.Limits.{isFigure, isQuantity, isReconciliation, isInLimit, isDefault, isBalance};
 use crate::amount::Kwh;
 use crate::amount::Price;
 use crate::amount::Ticks;
@@ -33,8 +33,8 @@ impl Kwh {
     }
 
     // Whether this can be the quantity of a reconciliation.
-    pub fn is_reconciled(self) -> bool
-        ensures { λ r. ⌜ r ≡ isReconciled (self .0) ⌝ }
+    pub fn is_reconciliation(self) -> bool
+        ensures { λ r. ⌜ r ≡ isReconciliation (self .0) ⌝ }
     {
         self.0 != 0 && self.0 >= -QUANTITY_LIMIT && self.0 <= QUANTITY_LIMIT
     }
@@ -42,8 +42,8 @@ impl Kwh {
 
 impl Price {
     // Whether this can be an offer price, an average or a fixed price.
-    pub fn is_offer(self) -> bool
-        ensures { λ r. ⌜ r ≡ isOffer (self .0) ⌝ }
+    pub fn is_in_limit(self) -> bool
+        ensures { λ r. ⌜ r ≡ isInLimit (self .0) ⌝ }
     {
         self.0 >= 0 && self.0 <= PRICE_LIMIT
     }

@@ -30,7 +30,8 @@ impl WireKwhChange {
     pub fn kwh(self) -> Kwh
         ensures { λ r. ⌜ r .0 ≡ self .0 ⌝ }
     {
-        Kwh(i64::from(self.0))
+        let WireKwhChange(quantity) = self;
+        Kwh(i64::from(quantity))
     }
 }
 

@@ -17,20 +17,7 @@ use amounts::wire::WireKwh;
 use amounts::wire::WireKwhChange;
 use amounts::wire::WirePrice;
 
-impl<'a> Reader<'a> {
-    pub fn new(bytes: &'a [u8]) -> Reader<'a>
-        ensures bytes { λ r. ⌜ now (r .bytes) ≡ now (bytes .entry) ⌝ }
-        ensures place { λ r. ⌜ r .place ≡ 0 ⌝ }
-    {
-        Reader { bytes, place: 0 }
-    }
-
-    pub fn place(&self) -> usize
-        ensures { λ r. ⌜ r ≡ now (self .entry) .place ⌝ }
-    {
-        self.place
-    }
-
+impl Reader<'_> {
     // The next event, or none at the end of the bytes. A refusal leaves the reader where it was.
     pub fn next(&mut self) -> Result<Option<Event>, ReaderFault>
         ensures value { λ r. ⌜ r ≡ decode (now (self .entry) .place) (now (now (self .entry) .bytes)) ⌝ }
