@@ -1,7 +1,7 @@
 -- The lines that a listing has still to give, from one line to the next.
 use Prim.Native.Nat.{ℕ, zero, suc, _+_, _-_, _≤_, _<_}
-use mathlib.Core.Path.{_≡_, refl, ap, sym, subst, _∙_}
-use mathlib.Core.List.{List, [], _∷_}
+use mathlib.Core.Path.{_≡_, refl, ap, sym, _∙_}
+use mathlib.Core.List.{List, _∷_}
 use native.Mathlib.Omega.{arith}
 use lib.ListN.{length, drop}
 use Rattle.std.specs.declared.option.Option.{Option}
@@ -13,8 +13,7 @@ use Rattle.messages.specs.declared.fault.ReaderFault.{ReaderFault}
 use Rattle.messages.specs.Decode.{field, some, decode}
 use Rattle.messages.specs.Field.{size}
 use Rattle.messages.proofs.Steps.{size-least, decode-end, decode-within}
-use Rattle.lister.specs.declared.line.Line.{Line}
-use Rattle.lister.specs.declared.line.Line.the-variants.{Read, Refused, Total}
+use Rattle.lister.specs.declared.line.Line.the-variants.{Read}
 use Rattle.lister.specs.Lines.{answered, linesFrom, linesLeft}
 
 none-some : (event : Event) → _≡_ {A = Result (Option Event) ReaderFault} (Ok None) (Ok (Some event)) → ⊥

@@ -1,5 +1,5 @@
 -- What a reader accepts is the message of its event.
-use Prim.Native.Nat.{ℕ, suc, _+_, _^_, _≤_, _<_}
+use Prim.Native.Nat.{ℕ, suc, _+_, _≤_, _<_}
 use mathlib.Core.Path.{_≡_, refl, ap, sym, subst, _∙_}
 use mathlib.Core.Bool.{Bool, true, false, cond, not}
 use mathlib.Core.List.{List, [], _∷_}
@@ -8,18 +8,18 @@ use lib.Dec.{eqb, leb}
 use lib.ListN.{length, getD, take, drop}
 use lib.Seq.{getD-drop}
 use borrow.Author.Tests.{eqb-true, leb-true}
-use mir.Val.{toZ, ofZ, SFits}
+use mir.Val.{toZ, ofZ}
 use mir.Facts.{sfits-toZ}
 use mir.Syntax.{w32}
-use Rattle.std.specs.declared.result.Result.the-variants.{Ok, Err}
+use Rattle.std.specs.declared.result.Result.the-variants.{Ok}
 use Rattle.std.specs.Vec.{made}
 use Rattle.std.proofs.shelf.Signed.{ofZ-toZ}
 use Rattle.messages.specs.declared.event.Event.{Event}
-use Rattle.messages.specs.declared.event.Event.the-variants.{Figures, Trade, Action, Close, Reconcile, Opening}
+use Rattle.messages.specs.declared.event.Event.the-variants.{Action}
 use Rattle.messages.specs.declared.event.Side.{Side}
 use Rattle.messages.specs.declared.event.Side.the-variants.{Buy, Sell}
 use Rattle.messages.specs.Decode.{pair, quad, kwh, price, sized, figures, trade, mark, action, close, reconcile, opening, tagged, field}
-use Rattle.messages.specs.Encode.{pairOf, quadOf, sideByte, flagByte, encode, Whole}
+use Rattle.messages.specs.Encode.{quadOf, sideByte, flagByte, encode, Whole}
 use Rattle.messages.specs.Field.{size, standsAt}
 use Rattle.messages.specs.Message.{Message}
 use Rattle.messages.proofs.Numbers.{Bytes, quad-at, pair-at, quad-fits, pair-fits, from, take-from}

@@ -1,6 +1,6 @@
 -- The definitions at the ways that a reader goes.
 use Prim.Native.Nat.{ℕ, _+_, _-_, _≤_, _<_}
-use mathlib.Core.Path.{_≡_, refl, ap, sym, subst, _∙_}
+use mathlib.Core.Path.{_≡_, refl, ap, sym, _∙_}
 use mathlib.Core.Bool.{Bool, true, false, cond, not}
 use mathlib.Core.List.{List}
 use native.Mathlib.Omega.{arith}
@@ -8,14 +8,13 @@ use lib.Dec.{eqb, leb}
 use lib.ListN.{length, getD, take, drop, length-drop}
 use borrow.Author.Tests.{le-leb, lt-leb, not-true}
 use Rattle.std.proofs.shelf.Lists.{take-all}
-use Rattle.std.specs.declared.option.Option.{Option}
 use Rattle.std.specs.declared.option.Option.the-variants.{None}
 use Rattle.std.specs.declared.result.Result.{Result}
 use Rattle.std.specs.declared.result.Result.the-variants.{Ok, Err}
 use Rattle.messages.specs.declared.event.Event.{Event}
 use Rattle.messages.specs.declared.event.Event.the-variants.{Figures, Trade, Action, Close, Reconcile, Opening}
 use Rattle.messages.specs.declared.fault.ReaderFault.{ReaderFault}
-use Rattle.messages.specs.declared.fault.ReaderFault.the-variants.{HeaderCut, TagUnknown, ValueCut}
+use Rattle.messages.specs.declared.fault.ReaderFault.the-variants.{TagUnknown, ValueCut}
 use Rattle.messages.specs.Decode.{pair, opening, others, tagged, field, some, decode}
 use Rattle.messages.specs.Encode.{encode}
 use Rattle.messages.specs.Field.{size}

@@ -1,13 +1,11 @@
 -- What was written is the message of its event, and so is read as the event.
 use Prim.Native.Nat.{ℕ, _+_, _≤_}
-use mathlib.Core.Path.{_≡_, refl, ap, sym, subst, _∙_}
-use mathlib.Core.Bool.{Bool, true, false, cond}
+use mathlib.Core.Path.{_≡_, ap, _∙_}
+use mathlib.Core.Bool.{true, cond}
 use mathlib.Core.List.{List, _++_}
 use native.Mathlib.Omega.{arith}
-use lib.Dec.{leb}
 use lib.ListN.{length, take, drop}
 use lib.Seq.{length-take-le, take-at, drop-at}
-use borrow.Author.Tests.{leb-true}
 use Rattle.std.proofs.shelf.Ways.{tells}
 use Rattle.std.specs.Results.{isOk}
 use Rattle.std.specs.Vec.{made}

@@ -1,7 +1,7 @@
 -- What the first field of a run of bytes says: the event, or the first question that gets a no.
-use Prim.Native.Nat.{ℕ, _+_, _*_, _≤_}
-use mathlib.Core.Bool.{Bool, true, false, cond}
-use mathlib.Core.List.{List, [], _∷_}
+use Prim.Native.Nat.{ℕ, _+_, _*_}
+use mathlib.Core.Bool.{true, false, cond}
+use mathlib.Core.List.{List}
 use lib.Dec.{eqb, leb}
 use lib.ListN.{length, getD, drop}
 use mir.Val.{toZ}
@@ -13,7 +13,6 @@ use Rattle.std.specs.declared.result.Result.the-variants.{Ok, Err}
 use Rattle.amounts.specs.declared.wire.WireKwh.{WireKwh}
 use Rattle.amounts.specs.declared.wire.WireKwhChange.{WireKwhChange}
 use Rattle.amounts.specs.declared.wire.WirePrice.{WirePrice}
-use Rattle.messages.specs.declared.event.Side.{Side}
 use Rattle.messages.specs.declared.event.Side.the-variants.{Buy, Sell}
 use Rattle.messages.specs.declared.event.Event.{Event}
 use Rattle.messages.specs.declared.event.Event.the-variants.{Figures, Trade, Action, Close, Reconcile, Opening}

@@ -4,8 +4,6 @@ use mathlib.Core.Bool.{Bool, true, false}
 use mathlib.Core.List.{List, [], _∷_}
 use mir.Val.{ofZ, SFits}
 use mir.Syntax.{w32}
-use Rattle.amounts.specs.declared.wire.WireKwh.{WireKwh}
-use Rattle.amounts.specs.declared.wire.WirePrice.{WirePrice}
 use Rattle.messages.specs.declared.event.Side.{Side}
 use Rattle.messages.specs.declared.event.Side.the-variants.{Buy, Sell}
 use Rattle.messages.specs.declared.event.Event.{Event}

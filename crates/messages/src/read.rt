@@ -1,11 +1,7 @@
 // Reads one event after another from borrowed bytes.
 ghost use mathlib.Core.Path.{_≡_};
-ghost use mathlib.Core.Bool.{true};
-ghost use Prim.Native.Nat.{ℕ, _+_, _*_, _<_, _≤_};
-ghost use lib.ListN.{length, getD, drop};
+ghost use lib.ListN.{drop};
 ghost use Rattle.std.specs.Vec.{made};
-ghost use Rattle.std.specs.declared.option.Option.the-variants.{Some};
-ghost use Rattle.std.specs.declared.result.Result.the-variants.{Ok};
 ghost use Rattle.messages.specs.Decode.{figures, trade, action, close, reconcile, opening, tagged, field, decode, after};
 ghost use Rattle.messages.specs.Message.{Message, Accepted, ReadsAs};
 ghost use Rattle.messages.specs.Left.{left, Falls};

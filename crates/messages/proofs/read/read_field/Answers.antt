@@ -6,7 +6,6 @@ use Rattle.std.specs.Vec.{made}
 use Rattle.messages.specs.Decode.{field, tagged}
 use Rattle.messages.specs.Message.{Message}
 use Rattle.messages.proofs.Canonical.{field-message}
-use Rattle.messages.proofs.RoundTrip.{reads-field}
 use Rattle.messages.proofs.Steps.{to-end, field-at}
 use Rattle.messages.proofs.read.read_field.Needs as need
 

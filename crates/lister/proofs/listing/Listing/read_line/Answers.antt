@@ -1,15 +1,13 @@
-use mathlib.Core.Path.{_≡_, refl, ap, sym, subst, _∙_}
-use mathlib.Core.List.{List, [], _∷_}
-use Prim.Native.Nat.{ℕ, _+_, _^_, _<_}
+use mathlib.Core.Path.{_≡_, ap, sym, _∙_}
+use mathlib.Core.List.{[], _∷_}
+use Prim.Native.Nat.{_+_, _^_, _<_}
 use native.Mathlib.Omega.{arith}
 use borrow.Author.Needs.{needs}
-use lib.ListN.{length}
 use Rattle.std.specs.declared.option.Option.the-variants.{Some, None}
 use Rattle.std.specs.declared.result.Result.the-variants.{Ok, Err}
-use Rattle.messages.specs.Decode.{after, decode}
+use Rattle.messages.specs.Decode.{after}
 use Rattle.messages.specs.Field.{size}
 use Rattle.lister.specs.declared.line.Line.the-variants.{Read, Refused, Total}
-use Rattle.lister.specs.declared.listing.Stage.the-variants.{Reading}
 use Rattle.lister.specs.Lines.{comingAt, linesLeft}
 use Rattle.lister.proofs.Enough.{left-by, end-at}
 use Rattle.lister.proofs.listing.Listing.read_line.Needs as need

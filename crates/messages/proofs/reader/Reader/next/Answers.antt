@@ -1,10 +1,9 @@
 use mathlib.Core.Path.{_≡_, refl, ap, sym, subst, _∙_}
 use borrow.Author.Needs.{needs}
 use lib.ListN.{drop}
-use Rattle.std.specs.declared.option.Option.the-variants.{None}
-use Rattle.std.specs.declared.result.Result.the-variants.{Ok, Err}
+use Rattle.std.specs.declared.result.Result.the-variants.{Err}
 use Rattle.std.proofs.shelf.Results.{err-from-errBy}
-use Rattle.messages.specs.Decode.{some, after, decode}
+use Rattle.messages.specs.Decode.{some, after}
 use Rattle.messages.specs.Message.{Message, Accepted}
 use Rattle.messages.specs.Left.{left, Falls}
 use Rattle.messages.proofs.RoundTrip.{message-reads}
