@@ -1,3 +1,4 @@
+use crate::message_examples::APART;
 use crate::message_examples::DAY;
 use lister::line::Line;
 use lister::line::LineDebug;
@@ -47,6 +48,27 @@ fn input_limit(rt: LibcRuntime) -> Result<(), Fail> {
         place: 65_536,
     };
     check_eq(listing.next_line(), Some(refused))?;
+    check_eq(listing.next_line(), None)?;
+    check(format!(rt.alloc(), "{refused}")?.as_str() == "refused 7 at 65536")
+}
+
+// Every number and every mark under its own name.
+#[test]
+fn fields_by_name(rt: LibcRuntime) -> Result<(), Fail> {
+    let heap = rt.alloc();
+    let mut listing = Listing::new(&APART);
+    for text in [
+        "0 opening users 3 default 16909060 averages 286397204 555885348 825373492 1094861636 1364349780 1633837924 1903326068",
+        "36 figures user 255 input 16909060 output 84281096 nomination 151653132",
+        "52 trade seller 3 buyer 4 quantity 4059231220",
+        "61 action user 5 kind sell locational no quantity 168496141 price 235868177",
+        "75 action user 6 kind buy locational yes quantity 1 price 2",
+        "89 reconcile user 7 day 258 quantity -2147483647",
+        "6 events 99 bytes",
+    ] {
+        let line = listing.next_line().ok_or("no line")?;
+        check(format!(heap, "{line}")?.as_str() == text)?;
+    }
     check_eq(listing.next_line(), None)
 }
 

@@ -1,10 +1,13 @@
+use amounts::layer::Layer;
+use amounts::layer::LayerDebug;
+use amounts::layer::LayerPartialEq;
 use amounts::wire::WireKwh;
 use amounts::wire::WireKwhChange;
 use amounts::wire::WirePrice;
+use messages::event::ActionKind;
 use messages::event::Event;
 use messages::event::EventDebug;
 use messages::event::EventPartialEq;
-use messages::event::Side;
 use messages::fault::ReaderFault;
 use messages::fault::ReaderFaultDebug;
 use messages::fault::ReaderFaultPartialEq;
@@ -17,112 +20,25 @@ use std::test::*;
 type Answer = Result<Option<Event>, ReaderFault>;
 
 // The worked Day: an opening, the figures of two Users, a trade, an action, a close and a reconciliation.
-pub const DAY: [u8; 104] = [
-    0x10,
-    0x00,
-    0x21,
-    0x02,
-    0x00,
-    0x00,
-    0x00,
-    0x64,
-    0x00,
-    0x00,
-    0x4e,
-    0x20,
-    0x00,
-    0x00,
-    0x4e,
-    0x20,
-    0x00,
-    0x00,
-    0x4e,
-    0x20,
-    0x00,
-    0x00,
-    0x4e,
-    0x20,
-    0x00,
-    0x00,
-    0x4e,
-    0x20,
-    0x00,
-    0x00,
-    0x4e,
-    0x20,
-    0x00,
-    0x00,
-    0x4e,
-    0x20,
-    0x01,
-    0x00,
-    0x0d,
-    0x01,
-    0x00,
-    0x00,
-    0x03,
-    0xe8,
-    0x00,
-    0x00,
-    0x03,
-    0x84,
-    0x00,
-    0x00,
-    0x03,
-    0xe8,
-    0x01,
-    0x00,
-    0x0d,
-    0x02,
-    0x00,
-    0x00,
-    0x01,
-    0xf4,
-    0x00,
-    0x00,
-    0x02,
-    0xbc,
-    0x00,
-    0x00,
-    0x01,
-    0x90,
-    0x02,
-    0x00,
-    0x06,
-    0x01,
-    0x02,
-    0x00,
-    0x00,
-    0x00,
-    0x1e,
-    0x03,
-    0x00,
-    0x0b,
-    0x01,
-    0x00,
-    0x00,
-    0x00,
-    0x00,
-    0x00,
-    0x3c,
-    0x00,
-    0x00,
-    0x52,
-    0x08,
-    0x04,
-    0x00,
-    0x00,
-    0x05,
-    0x00,
-    0x07,
-    0x02,
-    0x00,
-    0x01,
-    0xff,
-    0xff,
-    0xff,
-    0xfb,
-];
+pub const DAY: [u8; 104] = *b"\
+      \x10\x00\x21\x02\x00\x00\x00\x64\x00\x00\x4e\x20\x00\x00\x4e\x20\x00\x00\x4e\x20\
+      \x00\x00\x4e\x20\x00\x00\x4e\x20\x00\x00\x4e\x20\x00\x00\x4e\x20\
+      \x01\x00\x0d\x01\x00\x00\x03\xe8\x00\x00\x03\x84\x00\x00\x03\xe8\
+      \x01\x00\x0d\x02\x00\x00\x01\xf4\x00\x00\x02\xbc\x00\x00\x01\x90\
+      \x02\x00\x06\x01\x02\x00\x00\x00\x1e\
+      \x03\x00\x0b\x01\x00\x00\x00\x00\x00\x3c\x00\x00\x52\x08\
+      \x04\x00\x00\
+      \x05\x00\x07\x02\x00\x01\xff\xff\xff\xfb";
+
+// A field of each kind but the close, with bytes by which every number and every mark is told from the others.
+pub const APART: [u8; 99] = *b"\
+      \x10\x00\x21\x03\x01\x02\x03\x04\x11\x12\x13\x14\x21\x22\x23\x24\x31\x32\x33\x34\
+      \x41\x42\x43\x44\x51\x52\x53\x54\x61\x62\x63\x64\x71\x72\x73\x74\
+      \x01\x00\x0d\xff\x01\x02\x03\x04\x05\x06\x07\x08\x09\x0a\x0b\x0c\
+      \x02\x00\x06\x03\x04\xf1\xf2\xf3\xf4\
+      \x03\x00\x0b\x05\x01\x00\x0a\x0b\x0c\x0d\x0e\x0f\x10\x11\
+      \x03\x00\x0b\x06\x00\x01\x00\x00\x00\x01\x00\x00\x00\x02\
+      \x05\x00\x07\x07\x01\x02\x80\x00\x00\x01";
 
 fn opening() -> Event {
     let average = WirePrice(20_000);
@@ -161,7 +77,7 @@ fn day() -> [Event; 7] {
         },
         Event::Action {
             user: 1,
-            side: Side::Buy,
+            kind: ActionKind::Buy,
             locational: false,
             quantity: WireKwh(60),
             price: WirePrice(21_000),
@@ -214,15 +130,16 @@ fn the_worked_day_is_written() -> Result<(), Fail> {
 #[test]
 fn refused_at_place_0() -> Result<(), Fail> {
     check_eq(first(&[]), Ok(None))?;
-    check_eq(first(&[0x10]), Err(ReaderFault::HeaderCut))?;
-    check_eq(first(&[0x10, 0x00]), Err(ReaderFault::HeaderCut))?;
+    check_eq(first(&[0x10]), Err(ReaderFault::HeaderTruncated))?;
+    check_eq(first(&[0x04, 0x00]), Err(ReaderFault::HeaderTruncated))?;
+    check_eq(first(&[0x10, 0x00]), Err(ReaderFault::HeaderTruncated))?;
     check_eq(first(&[0x04, 0x00, 0x00]), Err(ReaderFault::TagUnknown))?;
     check_eq(first(&[0x01, 0x00, 0x0d]), Err(ReaderFault::TagUnknown))?;
     check_eq(first(&[0x11, 0x00, 0x21]), Err(ReaderFault::TagUnknown))?;
     check_eq(first(&[0x10, 0x00, 0x20]), Err(ReaderFault::LengthWrong))?;
     check_eq(first(&[0x10, 0x01, 0x21]), Err(ReaderFault::LengthWrong))?;
-    check_eq(first(&[0x10, 0x00, 0x21]), Err(ReaderFault::ValueCut))?;
-    check_eq(first(&DAY[0..35]), Err(ReaderFault::ValueCut))?;
+    check_eq(first(&[0x10, 0x00, 0x21]), Err(ReaderFault::ValueTruncated))?;
+    check_eq(first(&DAY[0..35]), Err(ReaderFault::ValueTruncated))?;
     check_eq(first(&DAY[0..36]), Ok(Some(opening())))
 }
 
@@ -230,7 +147,10 @@ fn refused_at_place_0() -> Result<(), Fail> {
 fn refused_at_another_place(rt: LibcRuntime) -> Result<(), Fail> {
     let heap = rt.alloc();
     check_eq(second(heap, &[])?, Ok(None))?;
-    check_eq(second(heap, &[0x04, 0x00])?, Err(ReaderFault::HeaderCut))?;
+    check_eq(
+        second(heap, &[0x04, 0x00])?,
+        Err(ReaderFault::HeaderTruncated),
+    )?;
     check_eq(
         second(heap, &[0x10, 0x00, 0x21])?,
         Err(ReaderFault::TagUnknown),
@@ -245,6 +165,10 @@ fn refused_at_another_place(rt: LibcRuntime) -> Result<(), Fail> {
     )?;
     check_eq(
         second(heap, &[0x04, 0x00, 0x01])?,
+        Err(ReaderFault::LengthWrong),
+    )?;
+    check_eq(
+        second(heap, &[0x03, 0x00, 0x0c, 0x01, 0x02, 0x02])?,
         Err(ReaderFault::LengthWrong),
     )?;
     check_eq(second(heap, &[0x04, 0x00, 0x00])?, Ok(Some(Event::Close)))
@@ -280,12 +204,15 @@ fn marks(rt: LibcRuntime) -> Result<(), Fail> {
         let answer = second(heap, &field)?;
         check_eq(answer.is_ok(), known)?;
         check_eq(answer == Err(ReaderFault::MarkUnknown), !known)?;
-        check_eq(second(heap, &field[0..13])?, Err(ReaderFault::ValueCut))?;
+        check_eq(
+            second(heap, &field[0..13])?,
+            Err(ReaderFault::ValueTruncated),
+        )?;
     }
     Ok(())
 }
 
-// The fields of the worked Day after the opening, cut at every byte.
+// The fields of the worked Day, cut at every byte.
 #[test]
 fn cut_at_every_byte() -> Result<(), Fail> {
     for (before, from, to) in [
@@ -302,8 +229,8 @@ fn cut_at_every_byte() -> Result<(), Fail> {
             }
             let expected = match end - from {
                 0 => Ok(None),
-                1..=2 => Err(ReaderFault::HeaderCut),
-                _ => Err(ReaderFault::ValueCut),
+                1..=2 => Err(ReaderFault::HeaderTruncated),
+                _ => Err(ReaderFault::ValueTruncated),
             };
             check_eq(reader.next(), expected)?;
             check_eq(reader.place(), from)?;
@@ -356,4 +283,35 @@ fn refused_writes() -> Result<(), Fail> {
                 0x00,
             ],
     )
+}
+
+// Each field, read and written again at its place.
+#[test]
+fn written_as_it_was_read() -> Result<(), Fail> {
+    let mut bytes = [0xee; 99];
+    let mut reader = Reader::new(&APART);
+    for _ in 0..6 {
+        let place = reader.place();
+        let event = reader.next()?.ok_or("no event")?;
+        check_eq(write(&event, &mut bytes, place), Ok(reader.place()))?;
+    }
+    check_eq(reader.next(), Ok(None))?;
+    check(bytes == APART)
+}
+
+#[test]
+fn faults() -> Result<(), Fail> {
+    for (fault, number) in [
+        (ReaderFault::HeaderTruncated, 1),
+        (ReaderFault::TagUnknown, 2),
+        (ReaderFault::LengthWrong, 3),
+        (ReaderFault::ValueTruncated, 4),
+        (ReaderFault::MarkUnknown, 5),
+        (ReaderFault::NoSpace, 6),
+        (ReaderFault::InputTooLong, 7),
+    ] {
+        check_eq(fault.number(), number)?;
+        check_eq(fault.layer(), Layer::Reader)?;
+    }
+    Ok(())
 }

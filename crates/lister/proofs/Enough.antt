@@ -20,13 +20,13 @@ none-some : (event : Event) → _≡_ {A = Result (Option Event) ReaderFault} (O
 none-some event e = let z : _≡_ {A = ℕ} 0 1 = cc in omega arith
 
 -- an event is read only before the end of the bytes
-read-within : (bytes : List ℕ) (place : ℕ) (event : Event) → decode place bytes ≡ Ok (Some event) → place < length bytes
+pub read-within : (bytes : List ℕ) (place : ℕ) (event : Event) → decode place bytes ≡ Ok (Some event) → place < length bytes
 read-within bytes place event e =
     let no : length bytes ≤ place → ⊥ = λ h. none-some event (sym (decode-end place bytes h) ∙ e) in
     omega arith
 
 -- the bytes left after an event are fewer than the turns left
-fewer : (bytes : List ℕ) (place m : ℕ) (event : Event) → decode place bytes ≡ Ok (Some event) → length bytes - place < suc m → length bytes - (place + size event) < m
+pub fewer : (bytes : List ℕ) (place m : ℕ) (event : Event) → decode place bytes ≡ Ok (Some event) → length bytes - place < suc m → length bytes - (place + size event) < m
 fewer bytes place m event e h = omega (arith, read-within bytes place event e, size-least event)
 
 same-after : (bytes : List ℕ) (m n events place : ℕ) (r : Result (Option Event) ReaderFault) → ((event : Event) → r ≡ Ok (Some event) → linesFrom m bytes (events + 1) (place + size event) ≡ linesFrom n bytes (events + 1) (place + size event)) → answered (linesFrom m bytes) bytes events place r ≡ answered (linesFrom n bytes) bytes events place r

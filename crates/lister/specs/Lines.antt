@@ -9,8 +9,9 @@ use Rattle.std.specs.declared.result.Result.the-variants.{Ok, Err}
 use Rattle.messages.specs.declared.event.Event.{Event}
 use Rattle.messages.specs.declared.fault.ReaderFault.{ReaderFault}
 use Rattle.messages.specs.declared.fault.ReaderFault.the-variants.{InputTooLong}
-use Rattle.messages.specs.Decode.{decode, limited}
+use Rattle.messages.specs.Decode.{decode}
 use Rattle.messages.specs.Field.{size}
+use Rattle.messages.specs.Input.{limited}
 use Rattle.lister.specs.declared.line.Line.{Line}
 use Rattle.lister.specs.declared.line.Line.the-variants.{Read, Refused, Total}
 use Rattle.lister.specs.declared.listing.Listing.{Listing}
@@ -34,15 +35,20 @@ linesLeft bytes events place = linesFrom (suc (length bytes - place)) bytes even
 abbrev pub tooLong : List Line
 tooLong = Refused InputTooLong 65536 ∷ []
 
--- all lines of the bytes
-abbrev pub listed : List ℕ → List Line
-listed bytes = elim (limited (length bytes)) [ Ok within ↦ linesLeft bytes 0 0 | Err fault ↦ tooLong ]
-
 -- the lines that a listing has still to give
 abbrev pub comingAt : Stage → List ℕ → ℕ → ℕ → List Line
 comingAt TooLong bytes events place = tooLong
 comingAt Reading bytes events place = linesLeft bytes events place
 comingAt Ended bytes events place = []
+
+-- how a listing starts
+abbrev pub firstStage : Result (Unit {0}) ReaderFault → Stage
+firstStage (Ok within) = Reading
+firstStage (Err fault) = TooLong
+
+-- all lines of the bytes
+abbrev pub listed : List ℕ → List Line
+listed bytes = comingAt (firstStage (limited (length bytes))) bytes 0 0
 
 abbrev pub coming : Listing → List Line
 coming l = comingAt (l .stage) (l .reader .bytes .now) (l .events) (l .reader .place)

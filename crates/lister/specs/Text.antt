@@ -5,17 +5,17 @@ use mathlib.Core.List.{List, _++_}
 use lib.Chars.{codes}
 use Rattle.std.specs.Written.{decimal, signed}
 use Rattle.amounts.specs.declared.wire.WirePrice.{WirePrice}
-use Rattle.messages.specs.declared.event.Side.{Side}
-use Rattle.messages.specs.declared.event.Side.the-variants.{Buy, Sell}
+use Rattle.messages.specs.declared.event.ActionKind.{ActionKind}
+use Rattle.messages.specs.declared.event.ActionKind.the-variants.{Buy, Sell}
 use Rattle.messages.specs.declared.event.Event.{Event}
 use Rattle.messages.specs.declared.event.Event.the-variants.{Figures, Trade, Action, Close, Reconcile, Opening}
 use Rattle.messages.specs.Faults.{number}
 use Rattle.lister.specs.declared.line.Line.{Line}
 use Rattle.lister.specs.declared.line.Line.the-variants.{Read, Refused, Total}
 
-abbrev pub sideText : Side → List ℕ
-sideText Buy = codes "buy"
-sideText Sell = codes "sell"
+abbrev pub kindText : ActionKind → List ℕ
+kindText Buy = codes "buy"
+kindText Sell = codes "sell"
 
 abbrev pub yesNoText : Bool → List ℕ
 yesNoText true = codes "yes"
@@ -33,8 +33,8 @@ eventText (Figures user input output nomination) =
     codes "figures user " ++ (decimal user ++ (codes " input " ++ (decimal (input .0) ++ (codes " output " ++ (decimal (output .0) ++ (codes " nomination " ++ decimal (nomination .0)))))))
 eventText (Trade seller buyer quantity) =
     codes "trade seller " ++ (decimal seller ++ (codes " buyer " ++ (decimal buyer ++ (codes " quantity " ++ decimal (quantity .0)))))
-eventText (Action user side locational quantity price) =
-    codes "action user " ++ (decimal user ++ (codes " kind " ++ (sideText side ++ (codes " locational " ++ (yesNoText locational ++ (codes " quantity " ++ (decimal (quantity .0) ++ (codes " price " ++ decimal (price .0)))))))))
+eventText (Action user kind locational quantity price) =
+    codes "action user " ++ (decimal user ++ (codes " kind " ++ (kindText kind ++ (codes " locational " ++ (yesNoText locational ++ (codes " quantity " ++ (decimal (quantity .0) ++ (codes " price " ++ decimal (price .0)))))))))
 eventText Close = codes "close"
 eventText (Reconcile user day quantity) =
     codes "reconcile user " ++ (decimal user ++ (codes " day " ++ (decimal day ++ (codes " quantity " ++ signed (quantity .0)))))

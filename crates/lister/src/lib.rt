@@ -1,5 +1,5 @@
 // What a run of bytes says, line by line.
 pub mod line;
-pub mod lines;
+mod lines;
 pub mod listing;
 pub mod text;

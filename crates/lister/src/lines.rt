@@ -2,11 +2,13 @@
 ghost use mathlib.Core.Path.{_≡_};
 ghost use mathlib.Core.Bool.{true};
 ghost use mathlib.Core.List.{_∷_};
-ghost use Prim.Native.Nat.{_<_};
+ghost use Prim.Native.Nat.{_<_, _≤_};
 ghost use lib.ListN.{length};
 ghost use Rattle.std.specs.Options.{isSome};
+ghost use Rattle.messages.specs.Input.{limited};
 ghost use Rattle.lister.specs.declared.listing.Stage.the-variants.{Reading};
-ghost use Rattle.lister.specs.Lines.{listed, coming, firstOf, othersOf};
+ghost use Rattle.lister.specs.Lines.{firstStage, listed, coming, firstOf, othersOf};
+ghost use Rattle.lister.specs.Tells.{Tells};
 use crate::line::Line;
 use crate::listing::Listing;
 use crate::listing::Stage;
@@ -17,16 +19,13 @@ use messages::reader::Reader;
 
 impl<'a> Listing<'a> {
     pub fn new(bytes: &'a [u8]) -> Listing<'a>
-        ensures { λ r. ⌜ coming r ≡ listed (now (bytes .entry)) ⌝ }
+        ensures lines { λ r. ⌜ coming r ≡ listed (now (bytes .entry)) ⌝ }
+        ensures tells { λ r. ⌜ (length (now (bytes .entry)) ≤ 65536 → Tells (now (bytes .entry)) 0 0 (coming r)) ⌝ }
     {
-        let stage = match check_input(bytes) {
-            Ok(()) => Stage::Reading,
-            Err(_) => Stage::TooLong,
-        };
         Listing {
             reader: Reader::new(bytes),
             events: 0,
-            stage,
+            stage: first_stage(bytes),
         }
     }
 
@@ -72,5 +71,15 @@ impl<'a> Listing<'a> {
                 Line::Refused { fault, place }
             }
         }
+    }
+}
+
+// Whether the bytes are read at all.
+fn first_stage(bytes: &[u8]) -> Stage
+    ensures { λ r. ⌜ r ≡ firstStage (limited (length (now (bytes .entry)))) ⌝ }
+{
+    match check_input(bytes) {
+        Ok(()) => Stage::Reading,
+        Err(_) => Stage::TooLong,
     }
 }

@@ -4,7 +4,7 @@ use messages::reader::Reader;
 
 // What a listing does next.
 #[derive(Clone, Copy)]
-pub enum Stage {
+pub(crate) enum Stage {
     // It refuses the whole input, which is too long.
     TooLong,
     // It reads the next field.

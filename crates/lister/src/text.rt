@@ -1,10 +1,10 @@
 // How a line is printed.
 ghost use Rattle.std.specs.declared.option.Option.the-variants.{Some};
-ghost use Rattle.lister.specs.Text.{sideText, yesNoText, latestText, averagesText, eventText, lineText};
+ghost use Rattle.lister.specs.Text.{kindText, yesNoText, latestText, averagesText, eventText, lineText};
 use crate::line::Line;
 use amounts::wire::WirePrice;
+use messages::event::ActionKind;
 use messages::event::Event;
-use messages::event::Side;
 use std::fmt;
 
 pub impl fmt::Display for Line as LineDisplay {
@@ -56,16 +56,16 @@ impl fmt::Display for EventText as EventTextDisplay {
             }
             Event::Action {
                 user,
-                side,
+                kind,
                 locational,
                 quantity,
                 price,
             } => {
-                let (side, locational) = (SideText(side), YesNo(locational));
+                let (kind, locational) = (KindText(kind), YesNo(locational));
                 let (quantity, price) = (quantity.0, price.0);
                 write!(
                     f,
-                    "action user {user} kind {side} locational {locational} quantity {quantity} price {price}"
+                    "action user {user} kind {kind} locational {locational} quantity {quantity} price {price}"
                 )
             }
             Event::Close => write!(f, "close"),
@@ -101,15 +101,15 @@ impl fmt::Display for EventText as EventTextDisplay {
 }
 
 #[derive(Clone, Copy)]
-struct SideText(Side);
+struct KindText(ActionKind);
 
-impl fmt::Display for SideText as SideTextDisplay {
-    ghost shown = { λ s. Some (sideText (s .0)) };
+impl fmt::Display for KindText as KindTextDisplay {
+    ghost shown = { λ s. Some (kindText (s .0)) };
 
     fn fmt<W: fmt::Write>(&self, f: &mut fmt::Formatter<W>) -> fmt::Result {
         match self.0 {
-            Side::Buy => write!(f, "buy"),
-            Side::Sell => write!(f, "sell"),
+            ActionKind::Buy => write!(f, "buy"),
+            ActionKind::Sell => write!(f, "sell"),
         }
     }
 }

@@ -11,8 +11,10 @@ fn main(rt: LibcRuntime) -> io::Result<()> {
         .take(INPUT_LIMIT as u64 + 1)
         .read_to_end(&mut bytes)?;
     let mut listing = Listing::new(bytes.as_slice());
-    while let Some(line) = listing.next_line() {
+    loop {
+        let Some(line) = listing.next_line() else {
+            return Ok(());
+        };
         println!(rt, "{line}")?;
     }
-    Ok(())
 }

@@ -16,10 +16,10 @@ use Rattle.std.specs.Vec.{made}
 use Rattle.std.proofs.shelf.Signed.{ofZ-toZ}
 use Rattle.messages.specs.declared.event.Event.{Event}
 use Rattle.messages.specs.declared.event.Event.the-variants.{Action}
-use Rattle.messages.specs.declared.event.Side.{Side}
-use Rattle.messages.specs.declared.event.Side.the-variants.{Buy, Sell}
+use Rattle.messages.specs.declared.event.ActionKind.{ActionKind}
+use Rattle.messages.specs.declared.event.ActionKind.the-variants.{Buy, Sell}
 use Rattle.messages.specs.Decode.{pair, quad, kwh, price, sized, figures, trade, mark, action, close, reconcile, opening, tagged, field}
-use Rattle.messages.specs.Encode.{quadOf, sideByte, flagByte, encode, Whole}
+use Rattle.messages.specs.Encode.{quadOf, kindByte, flagByte, encode, Whole}
 use Rattle.messages.specs.Field.{size, standsAt}
 use Rattle.messages.specs.Message.{Message}
 use Rattle.messages.proofs.Numbers.{Bytes, quad-at, pair-at, quad-fits, pair-fits, from, take-from}
@@ -95,21 +95,21 @@ module _ (place : ℕ) (bs : List ℕ) (b : Bytes bs) (some : 3 ≤ length bs) w
         (sym (ap (λ l. getD v 0 0 ∷ l) (pair-at v vb 1 (ap (λ n. quadOf n []) back ∙ quad-at v vb 3 refl))))
         _ (vb 0, pair-fits v vb 1, sfits-toZ (record { fits = quad-fits v vb 3 })) known refl refl)
 
-    action-at : (side : Side) (flag : Bool) → pair bs 1 ≡ 11 → 11 ≤ length v → getD bs 0 0 ≡ 0x03 → getD v 1 0 ≡ sideByte side → getD v 2 0 ≡ flagByte flag → Message place bs (Action (getD v 0 0) side flag (kwh v 3) (price v 7))
-    action-at side flag long fits is s f =
+    action-at : (kind : ActionKind) (flag : Bool) → pair bs 1 ≡ 11 → 11 ≤ length v → getD bs 0 0 ≡ 0x03 → getD v 1 0 ≡ kindByte kind → getD v 2 0 ≡ flagByte flag → Message place bs (Action (getD v 0 0) kind flag (kwh v 3) (price v 7))
+    action-at kind flag long fits is s f =
         let numbers : from 3 8 v ≡ quadOf (quad v 3) (quadOf (quad v 7) []) = sym (quad-at v vb 3 (quad-at v vb 7 refl)) in
         message 0x03 11 _ (omega arith) is long fits (λ i. getD v 0 0 ∷ s i ∷ f i ∷ numbers i) _ (vb 0, quad-fits v vb 3, quad-fits v vb 7) known refl refl
 
     at-mark : {A : Type 0} (n : ℕ) (x y : A) (next : A → Answer) → (n ≡ 0 → Good (next x)) → (n ≡ 1 → Good (next y)) → Good (mark n x y next)
     at-mark n x y next p q = by-cond Good (eqb n 0) _ _ (λ t. p (eqb-true _ _ t)) (λ _. by-cond Good (eqb n 1) _ _ (λ t. q (eqb-true _ _ t)) (λ _. tt))
 
-    at-flag : (side : Side) → pair bs 1 ≡ 11 → 11 ≤ length v → getD bs 0 0 ≡ 0x03 → getD v 1 0 ≡ sideByte side → Good (mark (getD v 2 0) false true (λ flag. Ok (Action (getD v 0 0) side flag (kwh v 3) (price v 7))))
-    at-flag side long fits is s = at-mark (getD v 2 0) false true (λ flag. Ok (Action (getD v 0 0) side flag (kwh v 3) (price v 7))) (action-at side false long fits is s) (action-at side true long fits is s)
+    at-flag : (kind : ActionKind) → pair bs 1 ≡ 11 → 11 ≤ length v → getD bs 0 0 ≡ 0x03 → getD v 1 0 ≡ kindByte kind → Good (mark (getD v 2 0) false true (λ flag. Ok (Action (getD v 0 0) kind flag (kwh v 3) (price v 7))))
+    at-flag kind long fits is s = at-mark (getD v 2 0) false true (λ flag. Ok (Action (getD v 0 0) kind flag (kwh v 3) (price v 7))) (action-at kind false long fits is s) (action-at kind true long fits is s)
 
     is-action : getD bs 0 0 ≡ 0x03 → Good (action (pair bs 1) v)
     is-action is =
         at-size 11 _ (λ long fits.
-        at-mark (getD v 1 0) Buy Sell (λ side. mark (getD v 2 0) false true (λ flag. Ok (Action (getD v 0 0) side flag (kwh v 3) (price v 7))))
+        at-mark (getD v 1 0) Buy Sell (λ kind. mark (getD v 2 0) false true (λ flag. Ok (Action (getD v 0 0) kind flag (kwh v 3) (price v 7))))
         (at-flag Buy long fits is) (at-flag Sell long fits is))
 
   at-tag : (n : ℕ) (x y : Answer) → (getD bs 0 0 ≡ n → Good x) → Good y → Good (cond (eqb (getD bs 0 0) n) x y)

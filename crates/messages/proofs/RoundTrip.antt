@@ -13,19 +13,19 @@ use Rattle.std.specs.declared.result.Result.the-variants.{Ok}
 use Rattle.std.proofs.shelf.Signed.{toZ-ofZ}
 use Rattle.messages.specs.declared.event.Event.{Event}
 use Rattle.messages.specs.declared.event.Event.the-variants.{Figures, Trade, Action, Close, Reconcile, Opening}
-use Rattle.messages.specs.declared.event.Side.{Side}
-use Rattle.messages.specs.declared.event.Side.the-variants.{Buy, Sell}
+use Rattle.messages.specs.declared.event.ActionKind.{ActionKind}
+use Rattle.messages.specs.declared.event.ActionKind.the-variants.{Buy, Sell}
 use Rattle.messages.specs.Decode.{quad, kwh, price as decoded-price, mark, field, some, decode}
-use Rattle.messages.specs.Encode.{sideByte, flagByte, encode, Whole}
+use Rattle.messages.specs.Encode.{kindByte, flagByte, encode, Whole}
 use Rattle.messages.specs.Field.{size, standsAt}
 use Rattle.messages.specs.Message.{Message}
 use Rattle.messages.proofs.Numbers.{quad-there, pair-there}
 use Rattle.messages.proofs.Steps.{Answer, field-first, field-later, enough, decode-within, size-least, encode-size}
 
 -- a mark is read as what it marks
-mark-side : (side : Side) (next : Side → Answer) → mark (sideByte side) Buy Sell next ≡ next side
-mark-side Buy next = refl
-mark-side Sell next = refl
+mark-kind : (kind : ActionKind) (next : ActionKind → Answer) → mark (kindByte kind) Buy Sell next ≡ next kind
+mark-kind Buy next = refl
+mark-kind Sell next = refl
 
 mark-flag : (flag : Bool) (next : Bool → Answer) → mark (flagByte flag) false true next ≡ next flag
 mark-flag false next = refl
@@ -44,12 +44,12 @@ module _ (place : ℕ) (more : List ℕ) where
       let e : Event = Trade seller buyer quantity in
       field-later place (encode e ++ more) (omega arith) p ∙ enough 6 (after e) _ (omega arith)
       ∙ (λ i. Ok (Trade seller buyer (record { 0 = quad-there (quantity .0) (w .2) i })))
-  reads-field (Action user side locational quantity price) w p =
-      let e : Event = Action user side locational quantity price in
+  reads-field (Action user kind locational quantity price) w p =
+      let e : Event = Action user kind locational quantity price in
       field-later place (encode e ++ more) (omega arith) p ∙ enough 11 (after e) _ (omega arith)
-      ∙ mark-side side (λ s. mark (flagByte locational) false true (λ l. Ok (Action user s l (kwh (after e) 3) (decoded-price (after e) 7))))
-      ∙ mark-flag locational (λ l. Ok (Action user side l (kwh (after e) 3) (decoded-price (after e) 7)))
-      ∙ (λ i. Ok (Action user side locational (record { 0 = quad-there (quantity .0) (w .1) i }) (record { 0 = quad-there (price .0) (w .2) i })))
+      ∙ mark-kind kind (λ s. mark (flagByte locational) false true (λ l. Ok (Action user s l (kwh (after e) 3) (decoded-price (after e) 7))))
+      ∙ mark-flag locational (λ l. Ok (Action user kind l (kwh (after e) 3) (decoded-price (after e) 7)))
+      ∙ (λ i. Ok (Action user kind locational (record { 0 = quad-there (quantity .0) (w .1) i }) (record { 0 = quad-there (price .0) (w .2) i })))
   reads-field Close w p = field-later place (encode Close ++ more) (omega arith) p
   reads-field (Reconcile user day quantity) w p =
       let e : Event = Reconcile user day quantity in

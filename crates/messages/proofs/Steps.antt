@@ -14,7 +14,7 @@ use Rattle.std.specs.declared.result.Result.the-variants.{Ok, Err}
 use Rattle.messages.specs.declared.event.Event.{Event}
 use Rattle.messages.specs.declared.event.Event.the-variants.{Figures, Trade, Action, Close, Reconcile, Opening}
 use Rattle.messages.specs.declared.fault.ReaderFault.{ReaderFault}
-use Rattle.messages.specs.declared.fault.ReaderFault.the-variants.{TagUnknown, ValueCut}
+use Rattle.messages.specs.declared.fault.ReaderFault.the-variants.{TagUnknown, ValueTruncated}
 use Rattle.messages.specs.Decode.{pair, opening, others, tagged, field, some, decode}
 use Rattle.messages.specs.Encode.{encode}
 use Rattle.messages.specs.Field.{size}
@@ -44,7 +44,7 @@ module _ (place : ℕ) (bs : List ℕ) where
   field-later h p = field-at h ∙ cond-no (eqb place 0) _ _ (not-true _ p)
 
 -- as many bytes are there as the length says
-pub enough : (n : ℕ) (bs : List ℕ) (answer : Answer) → n ≤ length bs → cond (leb n (length bs)) answer (Err ValueCut) ≡ answer
+pub enough : (n : ℕ) (bs : List ℕ) (answer : Answer) → n ≤ length bs → cond (leb n (length bs)) answer (Err ValueTruncated) ≡ answer
 enough n bs answer h = cond-yes (leb n (length bs)) _ _ (le-leb n (length bs) h)
 
 -- the place is before the end
@@ -62,7 +62,7 @@ decode-at place bytes r h e = ap some (e ∙ ap (field place) (to-end place byte
 pub size-least : (event : Event) → 3 ≤ size event
 size-least (Figures user input output nomination) = omega arith
 size-least (Trade seller buyer quantity) = omega arith
-size-least (Action user side locational quantity price) = omega arith
+size-least (Action user kind locational quantity price) = omega arith
 size-least Close = omega arith
 size-least (Reconcile user day quantity) = omega arith
 size-least (Opening users d a1 a2 a3 a4 a5 a6 a7) = omega arith
@@ -70,7 +70,7 @@ size-least (Opening users d a1 a2 a3 a4 a5 a6 a7) = omega arith
 pub encode-size : (event : Event) → length (encode event) ≡ size event
 encode-size (Figures user input output nomination) = refl
 encode-size (Trade seller buyer quantity) = refl
-encode-size (Action user side locational quantity price) = refl
+encode-size (Action user kind locational quantity price) = refl
 encode-size Close = refl
 encode-size (Reconcile user day quantity) = refl
 encode-size (Opening users d a1 a2 a3 a4 a5 a6 a7) = refl

@@ -13,11 +13,11 @@ use Rattle.std.specs.declared.result.Result.the-variants.{Ok, Err}
 use Rattle.amounts.specs.declared.wire.WireKwh.{WireKwh}
 use Rattle.amounts.specs.declared.wire.WireKwhChange.{WireKwhChange}
 use Rattle.amounts.specs.declared.wire.WirePrice.{WirePrice}
-use Rattle.messages.specs.declared.event.Side.the-variants.{Buy, Sell}
+use Rattle.messages.specs.declared.event.ActionKind.the-variants.{Buy, Sell}
 use Rattle.messages.specs.declared.event.Event.{Event}
 use Rattle.messages.specs.declared.event.Event.the-variants.{Figures, Trade, Action, Close, Reconcile, Opening}
 use Rattle.messages.specs.declared.fault.ReaderFault.{ReaderFault}
-use Rattle.messages.specs.declared.fault.ReaderFault.the-variants.{HeaderCut, TagUnknown, LengthWrong, ValueCut, MarkUnknown, InputTooLong}
+use Rattle.messages.specs.declared.fault.ReaderFault.the-variants.{HeaderTruncated, TagUnknown, LengthWrong, ValueTruncated, MarkUnknown}
 use Rattle.messages.specs.Field.{size}
 
 -- the number of two bytes, and of four, at a place, highest byte first
@@ -39,7 +39,7 @@ price bs i = record { 0 = quad bs i }
 
 -- a value of the given size: the length has to be that, and as many bytes have to be there
 abbrev pub sized : ℕ → ℕ → List ℕ → Result Event ReaderFault → Result Event ReaderFault
-sized size long bs answer = cond (eqb long size) (cond (leb size (length bs)) answer (Err ValueCut)) (Err LengthWrong)
+sized size long bs answer = cond (eqb long size) (cond (leb size (length bs)) answer (Err ValueTruncated)) (Err LengthWrong)
 
 -- a mark is 0 or 1
 abbrev pub mark : {A : Type 0} → ℕ → A → A → (A → Result Event ReaderFault) → Result Event ReaderFault
@@ -54,7 +54,7 @@ trade long bs = sized 6 long bs (Ok (Trade (getD bs 0 0) (getD bs 1 0) (kwh bs 2
 abbrev pub action : ℕ → List ℕ → Result Event ReaderFault
 action long bs =
     sized 11 long bs
-    (mark (getD bs 1 0) Buy Sell (λ side. mark (getD bs 2 0) false true (λ locational. Ok (Action (getD bs 0 0) side locational (kwh bs 3) (price bs 7)))))
+    (mark (getD bs 1 0) Buy Sell (λ kind. mark (getD bs 2 0) false true (λ locational. Ok (Action (getD bs 0 0) kind locational (kwh bs 3) (price bs 7)))))
 
 abbrev pub close : ℕ → Result Event ReaderFault
 close long = cond (eqb long 0) (Ok Close) (Err LengthWrong)
@@ -83,7 +83,7 @@ tagged place tag long bs =
 
 -- the first field of the bytes that are left at a place
 abbrev pub field : ℕ → List ℕ → Result Event ReaderFault
-field place bs = cond (leb 3 (length bs)) (tagged place (getD bs 0 0) (pair bs 1) (drop 3 bs)) (Err HeaderCut)
+field place bs = cond (leb 3 (length bs)) (tagged place (getD bs 0 0) (pair bs 1) (drop 3 bs)) (Err HeaderTruncated)
 
 abbrev pub some : Result Event ReaderFault → Result (Option Event) ReaderFault
 some (Ok event) = Ok (Some event)
@@ -98,7 +98,3 @@ abbrev pub after : ℕ → Result (Option Event) ReaderFault → ℕ
 after place (Ok None) = place
 after place (Ok (Some event)) = place + size event
 after place (Err fault) = place
-
--- whether so many bytes are taken in
-abbrev pub limited : ℕ → Result (Unit {0}) ReaderFault
-limited long = cond (leb long 65536) (Ok tt) (Err InputTooLong)

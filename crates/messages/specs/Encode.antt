@@ -4,8 +4,8 @@ use mathlib.Core.Bool.{Bool, true, false}
 use mathlib.Core.List.{List, [], _∷_}
 use mir.Val.{ofZ, SFits}
 use mir.Syntax.{w32}
-use Rattle.messages.specs.declared.event.Side.{Side}
-use Rattle.messages.specs.declared.event.Side.the-variants.{Buy, Sell}
+use Rattle.messages.specs.declared.event.ActionKind.{ActionKind}
+use Rattle.messages.specs.declared.event.ActionKind.the-variants.{Buy, Sell}
 use Rattle.messages.specs.declared.event.Event.{Event}
 use Rattle.messages.specs.declared.event.Event.the-variants.{Figures, Trade, Action, Close, Reconcile, Opening}
 
@@ -16,9 +16,9 @@ pairOf n more = n / 256 % 256 ∷ n % 256 ∷ more
 abbrev pub quadOf : ℕ → List ℕ → List ℕ
 quadOf n more = n / 16777216 % 256 ∷ n / 65536 % 256 ∷ n / 256 % 256 ∷ n % 256 ∷ more
 
-abbrev pub sideByte : Side → ℕ
-sideByte Buy = 0
-sideByte Sell = 1
+abbrev pub kindByte : ActionKind → ℕ
+kindByte Buy = 0
+kindByte Sell = 1
 
 abbrev pub flagByte : Bool → ℕ
 flagByte false = 0
@@ -28,8 +28,8 @@ abbrev pub encode : Event → List ℕ
 encode (Figures user input output nomination) =
     0x01 ∷ 0 ∷ 13 ∷ user ∷ quadOf (input .0) (quadOf (output .0) (quadOf (nomination .0) []))
 encode (Trade seller buyer quantity) = 0x02 ∷ 0 ∷ 6 ∷ seller ∷ buyer ∷ quadOf (quantity .0) []
-encode (Action user side locational quantity price) =
-    0x03 ∷ 0 ∷ 11 ∷ user ∷ sideByte side ∷ flagByte locational ∷ quadOf (quantity .0) (quadOf (price .0) [])
+encode (Action user kind locational quantity price) =
+    0x03 ∷ 0 ∷ 11 ∷ user ∷ kindByte kind ∷ flagByte locational ∷ quadOf (quantity .0) (quadOf (price .0) [])
 encode Close = 0x04 ∷ 0 ∷ 0 ∷ []
 encode (Reconcile user day quantity) = 0x05 ∷ 0 ∷ 7 ∷ user ∷ pairOf day (quadOf (ofZ w32 (quantity .0)) [])
 encode (Opening users d a1 a2 a3 a4 a5 a6 a7) =
@@ -39,7 +39,7 @@ encode (Opening users d a1 a2 a3 a4 a5 a6 a7) =
 abbrev pub Whole : Event → Type 0
 Whole (Figures user input output nomination) = (user < 2 ^ 8) × (input .0 < 2 ^ 32) × (output .0 < 2 ^ 32) × (nomination .0 < 2 ^ 32)
 Whole (Trade seller buyer quantity) = (seller < 2 ^ 8) × (buyer < 2 ^ 8) × (quantity .0 < 2 ^ 32)
-Whole (Action user side locational quantity price) = (user < 2 ^ 8) × (quantity .0 < 2 ^ 32) × (price .0 < 2 ^ 32)
+Whole (Action user kind locational quantity price) = (user < 2 ^ 8) × (quantity .0 < 2 ^ 32) × (price .0 < 2 ^ 32)
 Whole Close = Unit {0}
 Whole (Reconcile user day quantity) = (user < 2 ^ 8) × (day < 2 ^ 16) × SFits w32 (quantity .0)
 Whole (Opening users d a1 a2 a3 a4 a5 a6 a7) =

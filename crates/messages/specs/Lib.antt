@@ -5,3 +5,4 @@ pub mod Encode
 pub mod Message
 pub mod Write
 pub mod Left
+pub mod Input

@@ -1,6 +1,6 @@
 // The events that messages carry, one to a field.
 ghost use mathlib.Core.Path.{_≡_};
-ghost use Rattle.messages.specs.Encode.{sideByte};
+ghost use Rattle.messages.specs.Encode.{kindByte};
 ghost use Rattle.messages.specs.Field.{size, standsAt};
 use amounts::wire::WireKwh;
 use amounts::wire::WireKwhChange;
@@ -17,19 +17,19 @@ use amounts::wire::WirePricePartialEq;
 
 // What the operator does in a balancing action.
 #[derive(Clone, Copy, Debug, PartialEq, Eq)]
-pub enum Side {
+pub enum ActionKind {
     Buy,
     Sell,
 }
 
-impl Side {
-    // The byte that marks the side.
+impl ActionKind {
+    // The byte that marks the kind.
     pub(crate) fn mark(&self) -> u8
-        ensures { λ r. ⌜ r ≡ sideByte (now (self .entry)) ⌝ }
+        ensures { λ r. ⌜ r ≡ kindByte (now (self .entry)) ⌝ }
     {
         match self {
-            Side::Buy => 0,
-            Side::Sell => 1,
+            ActionKind::Buy => 0,
+            ActionKind::Sell => 1,
         }
     }
 }
@@ -51,7 +51,7 @@ pub enum Event {
     },
     Action {
         user: u8,
-        side: Side,
+        kind: ActionKind,
         locational: bool,
         quantity: WireKwh,
         price: WirePrice,

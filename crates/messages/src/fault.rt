@@ -6,13 +6,13 @@ use amounts::layer::Layer;
 #[derive(Clone, Copy, Debug, PartialEq, Eq)]
 pub enum ReaderFault {
     // Fewer than three bytes are left for a tag and a length.
-    HeaderCut,
+    HeaderTruncated,
     // The tag is not known at its place.
     TagUnknown,
     // The length is not that of the tag.
     LengthWrong,
     // Fewer bytes are left than the length says.
-    ValueCut,
+    ValueTruncated,
     // A mark is neither 0 nor 1.
     MarkUnknown,
     // The field does not fit the buffer from its place.
@@ -26,10 +26,10 @@ impl ReaderFault {
         ensures { λ r. ⌜ r ≡ number (now (self .entry)) ⌝ }
     {
         match self {
-            ReaderFault::HeaderCut => 1,
+            ReaderFault::HeaderTruncated => 1,
             ReaderFault::TagUnknown => 2,
             ReaderFault::LengthWrong => 3,
-            ReaderFault::ValueCut => 4,
+            ReaderFault::ValueTruncated => 4,
             ReaderFault::MarkUnknown => 5,
             ReaderFault::NoSpace => 6,
             ReaderFault::InputTooLong => 7,

@@ -1,7 +1,7 @@
 // How much a program takes in.
 ghost use mathlib.Core.Path.{_≡_};
 ghost use lib.ListN.{length};
-ghost use Rattle.messages.specs.Decode.{limited};
+ghost use Rattle.messages.specs.Input.{limited};
 use crate::fault::ReaderFault;
 
 // The most bytes that a program takes in.

@@ -2,6 +2,6 @@
 pub mod event;
 pub mod fault;
 pub mod input;
-pub mod read;
+mod read;
 pub mod reader;
 pub mod writer;

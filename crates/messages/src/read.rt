@@ -5,8 +5,8 @@ ghost use Rattle.std.specs.Vec.{made};
 ghost use Rattle.messages.specs.Decode.{figures, trade, action, close, reconcile, opening, tagged, field, decode, after};
 ghost use Rattle.messages.specs.Message.{Message, Accepted, ReadsAs};
 ghost use Rattle.messages.specs.Left.{left, Falls};
+use crate::event::ActionKind;
 use crate::event::Event;
-use crate::event::Side;
 use crate::fault::ReaderFault;
 use crate::reader::Reader;
 use amounts::wire::WireKwh;
@@ -38,34 +38,34 @@ fn read_field(place: usize, left: &[u8]) -> Result<Event, ReaderFault>
     ensures message { λ r. ⌜ made r (Message place (now (left .entry))) ⌝ }
 {
     let [tag, high, low, rest @ ..] = left else {
-        return Err(ReaderFault::HeaderCut);
+        return Err(ReaderFault::HeaderTruncated);
     };
     read_value(place, *tag, u16::from_be_bytes([*high, *low]), rest)
 }
 
-fn read_value(place: usize, tag: u8, long: u16, bytes: &[u8]) -> Result<Event, ReaderFault>
-    ensures { λ r. ⌜ r ≡ tagged place tag long (now (bytes .entry)) ⌝ }
+fn read_value(place: usize, tag: u8, len: u16, bytes: &[u8]) -> Result<Event, ReaderFault>
+    ensures { λ r. ⌜ r ≡ tagged place tag len (now (bytes .entry)) ⌝ }
 {
     match (place, tag) {
-        (0, 0x10) => read_opening(long, bytes),
+        (0, 0x10) => read_opening(len, bytes),
         (0, _) => Err(ReaderFault::TagUnknown),
-        (_, 0x01) => read_figures(long, bytes),
-        (_, 0x02) => read_trade(long, bytes),
-        (_, 0x03) => read_action(long, bytes),
-        (_, 0x04) => read_close(long),
-        (_, 0x05) => read_reconcile(long, bytes),
+        (_, 0x01) => read_figures(len, bytes),
+        (_, 0x02) => read_trade(len, bytes),
+        (_, 0x03) => read_action(len, bytes),
+        (_, 0x04) => read_close(len),
+        (_, 0x05) => read_reconcile(len, bytes),
         _ => Err(ReaderFault::TagUnknown),
     }
 }
 
-fn read_figures(long: u16, bytes: &[u8]) -> Result<Event, ReaderFault>
-    ensures { λ r. ⌜ r ≡ figures long (now (bytes .entry)) ⌝ }
+fn read_figures(len: u16, bytes: &[u8]) -> Result<Event, ReaderFault>
+    ensures { λ r. ⌜ r ≡ figures len (now (bytes .entry)) ⌝ }
 {
-    if long != 13 {
+    if len != 13 {
         return Err(ReaderFault::LengthWrong);
     }
     let [user, i0, i1, i2, i3, o0, o1, o2, o3, n0, n1, n2, n3, ..] = bytes else {
-        return Err(ReaderFault::ValueCut);
+        return Err(ReaderFault::ValueTruncated);
     };
     Ok(Event::Figures {
         user: *user,
@@ -75,14 +75,14 @@ fn read_figures(long: u16, bytes: &[u8]) -> Result<Event, ReaderFault>
     })
 }
 
-fn read_trade(long: u16, bytes: &[u8]) -> Result<Event, ReaderFault>
-    ensures { λ r. ⌜ r ≡ trade long (now (bytes .entry)) ⌝ }
+fn read_trade(len: u16, bytes: &[u8]) -> Result<Event, ReaderFault>
+    ensures { λ r. ⌜ r ≡ trade len (now (bytes .entry)) ⌝ }
 {
-    if long != 6 {
+    if len != 6 {
         return Err(ReaderFault::LengthWrong);
     }
     let [seller, buyer, q0, q1, q2, q3, ..] = bytes else {
-        return Err(ReaderFault::ValueCut);
+        return Err(ReaderFault::ValueTruncated);
     };
     Ok(Event::Trade {
         seller: *seller,
@@ -91,18 +91,18 @@ fn read_trade(long: u16, bytes: &[u8]) -> Result<Event, ReaderFault>
     })
 }
 
-fn read_action(long: u16, bytes: &[u8]) -> Result<Event, ReaderFault>
-    ensures { λ r. ⌜ r ≡ action long (now (bytes .entry)) ⌝ }
+fn read_action(len: u16, bytes: &[u8]) -> Result<Event, ReaderFault>
+    ensures { λ r. ⌜ r ≡ action len (now (bytes .entry)) ⌝ }
 {
-    if long != 11 {
+    if len != 11 {
         return Err(ReaderFault::LengthWrong);
     }
-    let [user, side, locational, q0, q1, q2, q3, p0, p1, p2, p3, ..] = bytes else {
-        return Err(ReaderFault::ValueCut);
+    let [user, kind, locational, q0, q1, q2, q3, p0, p1, p2, p3, ..] = bytes else {
+        return Err(ReaderFault::ValueTruncated);
     };
-    let side = match *side {
-        0 => Side::Buy,
-        1 => Side::Sell,
+    let kind = match *kind {
+        0 => ActionKind::Buy,
+        1 => ActionKind::Sell,
         _ => return Err(ReaderFault::MarkUnknown),
     };
     let locational = match *locational {
@@ -112,30 +112,30 @@ fn read_action(long: u16, bytes: &[u8]) -> Result<Event, ReaderFault>
     };
     Ok(Event::Action {
         user: *user,
-        side,
+        kind,
         locational,
         quantity: WireKwh(u32::from_be_bytes([*q0, *q1, *q2, *q3])),
         price: WirePrice(u32::from_be_bytes([*p0, *p1, *p2, *p3])),
     })
 }
 
-fn read_close(long: u16) -> Result<Event, ReaderFault>
-    ensures { λ r. ⌜ r ≡ close long ⌝ }
+fn read_close(len: u16) -> Result<Event, ReaderFault>
+    ensures { λ r. ⌜ r ≡ close len ⌝ }
 {
-    if long != 0 {
+    if len != 0 {
         return Err(ReaderFault::LengthWrong);
     }
     Ok(Event::Close)
 }
 
-fn read_reconcile(long: u16, bytes: &[u8]) -> Result<Event, ReaderFault>
-    ensures { λ r. ⌜ r ≡ reconcile long (now (bytes .entry)) ⌝ }
+fn read_reconcile(len: u16, bytes: &[u8]) -> Result<Event, ReaderFault>
+    ensures { λ r. ⌜ r ≡ reconcile len (now (bytes .entry)) ⌝ }
 {
-    if long != 7 {
+    if len != 7 {
         return Err(ReaderFault::LengthWrong);
     }
     let [user, d0, d1, q0, q1, q2, q3, ..] = bytes else {
-        return Err(ReaderFault::ValueCut);
+        return Err(ReaderFault::ValueTruncated);
     };
     Ok(Event::Reconcile {
         user: *user,
@@ -144,10 +144,10 @@ fn read_reconcile(long: u16, bytes: &[u8]) -> Result<Event, ReaderFault>
     })
 }
 
-fn read_opening(long: u16, bytes: &[u8]) -> Result<Event, ReaderFault>
-    ensures { λ r. ⌜ r ≡ opening long (now (bytes .entry)) ⌝ }
+fn read_opening(len: u16, bytes: &[u8]) -> Result<Event, ReaderFault>
+    ensures { λ r. ⌜ r ≡ opening len (now (bytes .entry)) ⌝ }
 {
-    if long != 33 {
+    if len != 33 {
         return Err(ReaderFault::LengthWrong);
     }
     let [
@@ -187,7 +187,7 @@ fn read_opening(long: u16, bytes: &[u8]) -> Result<Event, ReaderFault>
         ..
     ] = bytes
     else {
-        return Err(ReaderFault::ValueCut);
+        return Err(ReaderFault::ValueTruncated);
     };
     Ok(Event::Opening {
         users: *users,

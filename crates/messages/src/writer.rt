@@ -27,9 +27,9 @@ pub fn write(event: &Event, buffer: &mut [u8], place: usize) -> Result<usize, Re
 }
 
 fn write_event(event: Event, buffer: &mut [u8], place: usize) -> Result<usize, ReaderFault>
-    ensures value { λ r. ⌜ r ≡ fitted (size (event)) (length (now (buffer .entry))) place ⌝ }
-    ensures after { λ r. ⌜ now (buffer .exit) ≡ cond (isOk r) (put (now (buffer .entry)) place (encode (event))) (now (buffer .entry)) ⌝ }
-    ensures whole { λ _. ⌜ Whole (event) ⌝ }
+    ensures value { λ r. ⌜ r ≡ fitted (size event) (length (now (buffer .entry))) place ⌝ }
+    ensures after { λ r. ⌜ now (buffer .exit) ≡ cond (isOk r) (put (now (buffer .entry)) place (encode event)) (now (buffer .entry)) ⌝ }
+    ensures whole { λ _. ⌜ Whole event ⌝ }
 {
     match event {
         Event::Figures {
@@ -74,12 +74,12 @@ fn write_event(event: Event, buffer: &mut [u8], place: usize) -> Result<usize, R
         }
         Event::Action {
             user,
-            side,
+            kind,
             locational,
             quantity,
             price,
         } => {
-            let side = side.mark();
+            let kind = kind.mark();
             let locational = u8::from(locational);
             let [q0, q1, q2, q3] = quantity.0.to_be_bytes();
             let [p0, p1, p2, p3] = price.0.to_be_bytes();
@@ -91,7 +91,7 @@ fn write_event(event: Event, buffer: &mut [u8], place: usize) -> Result<usize, R
                     0,
                     11,
                     user,
-                    side,
+                    kind,
                     locational,
                     q0,
                     q1,
