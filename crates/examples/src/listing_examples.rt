@@ -58,7 +58,7 @@ fn fields_by_name(rt: LibcRuntime) -> Result<(), Fail> {
     let heap = rt.alloc();
     let mut listing = Listing::new(&APART);
     for text in [
-        "0 opening users 3 default 16909060 averages 286397204 555885348 825373492 1094861636 1364349780 1633837924 1903326068",
+        "0 opening users 3 default 16909060 average1 286397204 average2 555885348 average3 825373492 average4 1094861636 average5 1364349780 average6 1633837924 average7 1903326068",
         "36 figures user 255 input 16909060 output 84281096 nomination 151653132",
         "52 trade seller 3 buyer 4 quantity 4059231220",
         "61 action user 5 kind sell locational no quantity 168496141 price 235868177",

@@ -30,7 +30,7 @@ pub const DAY: [u8; 104] = *b"\
       \x04\x00\x00\
       \x05\x00\x07\x02\x00\x01\xff\xff\xff\xfb";
 
-// A field of each kind but the close, with bytes by which every number and every mark is told from the others.
+// A field of each kind but the close; within each, no two numbers or marks are alike, so that none is taken for another.
 pub const APART: [u8; 99] = *b"\
       \x10\x00\x21\x03\x01\x02\x03\x04\x11\x12\x13\x14\x21\x22\x23\x24\x31\x32\x33\x34\
       \x41\x42\x43\x44\x51\x52\x53\x54\x61\x62\x63\x64\x71\x72\x73\x74\

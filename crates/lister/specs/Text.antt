@@ -22,11 +22,12 @@ yesNoText true = codes "yes"
 yesNoText false = codes "no"
 
 abbrev pub latestText : WirePrice → WirePrice → WirePrice → List ℕ
-latestText a5 a6 a7 = decimal (a5 .0) ++ (codes " " ++ (decimal (a6 .0) ++ (codes " " ++ decimal (a7 .0))))
+latestText a5 a6 a7 =
+    codes "average5 " ++ (decimal (a5 .0) ++ (codes " average6 " ++ (decimal (a6 .0) ++ (codes " average7 " ++ decimal (a7 .0)))))
 
 abbrev pub averagesText : WirePrice → WirePrice → WirePrice → WirePrice → List ℕ → List ℕ
 averagesText a1 a2 a3 a4 latest =
-    decimal (a1 .0) ++ (codes " " ++ (decimal (a2 .0) ++ (codes " " ++ (decimal (a3 .0) ++ (codes " " ++ (decimal (a4 .0) ++ (codes " " ++ latest)))))))
+    codes "average1 " ++ (decimal (a1 .0) ++ (codes " average2 " ++ (decimal (a2 .0) ++ (codes " average3 " ++ (decimal (a3 .0) ++ (codes " average4 " ++ (decimal (a4 .0) ++ (codes " " ++ latest))))))))
 
 abbrev pub eventText : Event → List ℕ
 eventText (Figures user input output nomination) =
@@ -39,7 +40,7 @@ eventText Close = codes "close"
 eventText (Reconcile user day quantity) =
     codes "reconcile user " ++ (decimal user ++ (codes " day " ++ (decimal day ++ (codes " quantity " ++ signed (quantity .0)))))
 eventText (Opening users d a1 a2 a3 a4 a5 a6 a7) =
-    codes "opening users " ++ (decimal users ++ (codes " default " ++ (decimal (d .0) ++ (codes " averages " ++ averagesText a1 a2 a3 a4 (latestText a5 a6 a7)))))
+    codes "opening users " ++ (decimal users ++ (codes " default " ++ (decimal (d .0) ++ (codes " " ++ averagesText a1 a2 a3 a4 (latestText a5 a6 a7)))))
 
 abbrev pub lineText : Line → List ℕ
 lineText (Read place event) = decimal place ++ (codes " " ++ eventText event)

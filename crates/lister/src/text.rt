@@ -93,7 +93,7 @@ impl fmt::Display for EventText as EventTextDisplay {
                 let default_price = default_price.0;
                 write!(
                     f,
-                    "opening users {users} default {default_price} averages {averages}"
+                    "opening users {users} default {default_price} {averages}"
                 )
             }
         }
@@ -142,7 +142,10 @@ impl fmt::Display for Averages as AveragesDisplay {
     fn fmt<W: fmt::Write>(&self, f: &mut fmt::Formatter<W>) -> fmt::Result {
         let Averages(a1, a2, a3, a4, latest) = *self;
         let (a1, a2, a3, a4) = (a1.0, a2.0, a3.0, a4.0);
-        write!(f, "{a1} {a2} {a3} {a4} {latest}")
+        write!(
+            f,
+            "average1 {a1} average2 {a2} average3 {a3} average4 {a4} {latest}"
+        )
     }
 }
 
@@ -152,6 +155,6 @@ impl fmt::Display for Latest as LatestDisplay {
     fn fmt<W: fmt::Write>(&self, f: &mut fmt::Formatter<W>) -> fmt::Result {
         let Latest(a5, a6, a7) = *self;
         let (a5, a6, a7) = (a5.0, a6.0, a7.0);
-        write!(f, "{a5} {a6} {a7}")
+        write!(f, "average5 {a5} average6 {a6} average7 {a7}")
     }
 }
