@@ -1,2 +1,3 @@
 pub mod Arithmetic
 pub mod Limits
+pub mod Sums
