@@ -1,3 +1,5 @@
 pub mod HalfUp
 pub mod Products
 pub mod Roundings
+pub mod Sums
+pub mod Within

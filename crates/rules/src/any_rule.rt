@@ -1,0 +1,86 @@
+// What is proved of every price rule and of every sharing rule at once, from the traits alone.
+ghost use mathlib.Core.Path.{_≡_};
+ghost use mathlib.Core.Bool.{cond};
+ghost use Prim.Native.Nat.{_<_};
+ghost use lib.Dec.{eqb};
+ghost use lib.IntN.{pos, negsuc, natAbs, _-ℤ_};
+ghost use lib.ListN.{length};
+ghost use Rattle.std.specs.shelf.Lists.{sum};
+ghost use Rattle.rules.specs.AnyRule.{SpreadAnswer, ApportionAnswer};
+ghost use Rattle.rules.specs.Prices.{isPriceQuestion, Within};
+ghost use Rattle.rules.specs.Sharing.{isSharingQuestion};
+use crate::fault::RuleFault;
+use crate::price_rule::CountedAction;
+use crate::price_rule::PriceRule;
+use crate::sharing_rule::SharingRule;
+use crate::weights::total_weight;
+use amounts::amount::Price;
+
+// Three prices without a sign: the average, how far buy lies above it, and how far sell lies below it; and the default price.
+#[derive(Clone, Copy, Debug, PartialEq, Eq)]
+pub struct Spread {
+    pub default: u32,
+    pub average: u32,
+    pub above: u32,
+    pub below: u32,
+}
+
+// What is left of an amount that was shared.
+#[derive(Clone, Copy, Debug, PartialEq, Eq)]
+pub enum Left {
+    // All of it, since there is no weight.
+    Everything,
+    // Less than the sum of the weights, either side of zero.
+    Part(i32),
+}
+
+// The prices of any rule as distances.
+pub fn spread_of<P: PriceRule>(
+    rule: &P,
+    counted: &[CountedAction],
+    preceding: &[Price],
+) -> Result<Spread, RuleFault>
+    ensures { λ r. ⌜ SpreadAnswer (isPriceQuestion (now (counted .entry)) (now (preceding .entry))) (P·PriceRule .default (now (rule .entry))) (P·PriceRule .prices (now (rule .entry)) (now (counted .entry)) (now (preceding .entry))) r ⌝ }
+{
+    let (average, buy, sell) = rule.prices(counted, preceding)?;
+    Ok(Spread {
+        default: distance(Price(0), rule.default_price()),
+        average: distance(Price(0), average),
+        above: distance(average, buy),
+        below: distance(sell, average),
+    })
+}
+
+// How far a price lies above another.
+fn distance(low: Price, high: Price) -> u32
+    requires low { ⌜ Within (negsuc 99999) (pos 1000000) (low .0) ⌝ }
+    requires above { ⌜ Within (low .0) (pos 1100000) (high .0) ⌝ }
+    ensures { λ r. ⌜ pos r ≡ high .0 -ℤ low .0 ⌝ }
+{
+    (high.0 - low.0) as u32
+}
+
+// Shares an amount by any rule, and says what is left of it.
+pub fn apportion<S: SharingRule>(
+    rule: &S,
+    amount: i64,
+    weights: &[u32],
+    into: &mut [i64],
+) -> Result<Left, RuleFault>
+    ensures { λ r. ⌜ ApportionAnswer (isSharingQuestion (now (weights .entry)) (length (now (into .entry)))) amount (now (weights .entry)) (S·SharingRule .margin (now (rule .entry)) (sum (now (weights .entry)))) (now (into .entry)) r (now (into .exit)) ⌝ }
+{
+    let total = total_weight(weights, into.len())?;
+    let remainder = rule.share(amount, weights, into)?;
+    Ok(left_by(total, remainder))
+}
+
+// A remainder, by the sum of the weights.
+fn left_by(total: u32, remainder: i64) -> Left
+    requires { ⌜ (0 < total → natAbs remainder < 64000000) ⌝ }
+    ensures { λ r. ⌜ r ≡ cond (eqb total 0) Left.Everything (Left.Part remainder) ⌝ }
+{
+    if total == 0 {
+        return Left::Everything;
+    }
+    Left::Part(remainder as i32)
+}

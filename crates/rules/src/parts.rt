@@ -1,0 +1,29 @@
+// Whole parts of an amount, for both sharing rules.
+ghost use mathlib.Core.Path.{_≡_};
+ghost use lib.IntN.{pos, _-ℤ_, _*ℤ_};
+ghost use mir.Syntax.{w64};
+ghost use mir.Val.{SFits};
+ghost use Rattle.rules.specs.SharingRules.{truncated};
+use amounts::rounding::toward_zero;
+
+// The amount for each unit of the total, with its fraction dropped; 0 where the total is 0.
+pub(crate) fn rate_of(amount: i64, total: u32) -> i64
+    ensures { λ r. ⌜ r ≡ truncated amount total ⌝ }
+{
+    toward_zero(amount, i64::from(total)).unwrap_or(0)
+}
+
+// So many times the rate.
+pub(crate) fn times(rate: i64, units: u32) -> i64
+    requires { ⌜ SFits w64 (rate *ℤ pos units) ⌝ }
+    ensures { λ r. ⌜ r ≡ rate *ℤ pos units ⌝ }
+{
+    rate * i64::from(units)
+}
+
+// What a whole rate for the total leaves of the amount.
+pub(crate) fn rest_of(amount: i64, total: u32) -> i64
+    ensures { λ r. ⌜ r ≡ amount -ℤ truncated amount total *ℤ pos total ⌝ }
+{
+    amount - times(rate_of(amount, total), total)
+}

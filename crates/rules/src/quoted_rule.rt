@@ -1,0 +1,71 @@
+// The quoted rule: a fixed price in the place of an average.
+ghost use mathlib.Core.Path.{_≡_};
+ghost use mathlib.Core.Bool.{cond, _&&_};
+ghost use lib.IntN.{pos};
+ghost use Rattle.amounts.specs.Limits.{isInLimit, isDefault};
+ghost use Rattle.rules.specs.Prices.{Within, isPriceQuestion, priced};
+ghost use Rattle.rules.specs.PriceRules.{quoted, makeable};
+use crate::fault::RuleFault;
+use crate::price_rule::CountedAction;
+use crate::price_rule::PriceRule;
+use crate::tally::read_question;
+use amounts::amount::Price;
+
+// The fixed price, with the default price either side of it, whatever was traded.
+#[derive(Clone, Copy)]
+pub struct QuotedRule {
+    price: Price,
+    default: Price,
+    ghost fixed: { Within (pos 0) (pos 1000000) (price .0) },
+    ghost within: { Within (pos 0) (pos 100000) (default .0) },
+}
+
+impl QuotedRule {
+    // Whether a rule can be made of this fixed price and this default price.
+    pub fn check(fixed_price: Price, default_price: Price) -> Result<(), RuleFault>
+        ensures { λ r. ⌜ r ≡ makeable (isInLimit («fixed_price» .0) && isDefault («default_price» .0)) ⌝ }
+    {
+        if !fixed_price.is_in_limit() || !default_price.is_default() {
+            return Err(RuleFault::PriceOutOfLimit);
+        }
+        Ok(())
+    }
+
+    // The rule with these prices; of prices that `check` refuses, with 0 and 0.
+    pub fn new(fixed_price: Price, default_price: Price) -> QuotedRule
+        ensures fixed { λ r. ⌜ r .price .0 ≡ cond (isInLimit («fixed_price» .0) && isDefault («default_price» .0)) («fixed_price» .0) (pos 0) ⌝ }
+        ensures default { λ r. ⌜ r .default .0 ≡ cond (isInLimit («fixed_price» .0) && isDefault («default_price» .0)) («default_price» .0) (pos 0) ⌝ }
+    {
+        let Ok(()) = QuotedRule::check(fixed_price, default_price) else {
+            return QuotedRule {
+                price: Price(0),
+                default: Price(0),
+            };
+        };
+        QuotedRule {
+            price: fixed_price,
+            default: default_price,
+        }
+    }
+}
+
+pub impl PriceRule for QuotedRule as QuotedRulePrices {
+    ghost default = { λ rule. rule .default .0 };
+
+    ghost prices = { λ rule _ _. quoted (rule .price .0) (rule .default .0) };
+
+    fn default_price(&self) -> Price {
+        self.default
+    }
+
+    fn prices(
+        &self,
+        counted: &[CountedAction],
+        preceding: &[Price],
+    ) -> Result<(Price, Price, Price), RuleFault> {
+        read_question(counted, preceding)?;
+        let buy = Price(self.price.0 + self.default.0);
+        let sell = Price(self.price.0 - self.default.0);
+        Ok((self.price, buy, sell))
+    }
+}

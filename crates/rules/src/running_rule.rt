@@ -1,0 +1,66 @@
+// The running rule: what the weights so far have together is cut at a whole number, and each share is what its weight adds.
+ghost use mathlib.Core.Path.{_≡_};
+ghost use Prim.Native.Nat.{_≤_, _<_};
+ghost use lib.IntN.{ℤ};
+ghost use lib.ListN.{length};
+ghost use Rattle.std.specs.declared.result.Result.the-variants.{Ok};
+ghost use Rattle.std.specs.shelf.Lists.{sum};
+ghost use Rattle.rules.specs.Sharing.{Shared, shared, isSharingQuestion};
+ghost use Rattle.rules.specs.SharingRules.{cut, differences, runningShares, runningRemainder, runningMargin, FrontsTruncated};
+use crate::fault::RuleFault;
+use crate::parts::rate_of;
+use crate::parts::rest_of;
+use crate::parts::times;
+use crate::sharing_rule::SharingRule;
+use crate::weights::total_weight;
+
+// Every amount is shared to its last unit, unless there is no weight.
+#[derive(Clone, Copy, Debug, PartialEq, Eq)]
+pub struct RunningRule;
+
+pub impl SharingRule for RunningRule as RunningRuleSharing {
+    ghost shares = { λ _. runningShares };
+
+    ghost remainder = { λ _. runningRemainder };
+
+    ghost margin = { λ _. runningMargin };
+
+    fn share(&self, amount: i64, weights: &[u32], into: &mut [i64]) -> Result<i64, RuleFault>
+        ensures value { λ r. ⌜ _≡_ {A = Shared} (r, now (into .exit)) (shared (isSharingQuestion (now (weights .entry)) (length (now (into .entry)))) (runningShares amount (now (weights .entry))) (runningRemainder amount (now (weights .entry))) (now (into .entry))) ⌝ }
+        ensures fronts { λ r. ⌜ ((remainder : ℤ) → r ≡ Ok remainder → 0 < sum (now (weights .entry)) → FrontsTruncated amount (now (weights .entry)) (now (into .exit))) ⌝ }
+    {
+        let total = total_weight(weights, into.len())?;
+        let shared = write_differences(amount, total, weights, into);
+        Ok(amount - shared)
+    }
+}
+
+// What the weights so far have of the amount together: by quotient and rest, so that no product leaves 64 bits.
+fn cut_at(amount: i64, total: u32, so_far: u32) -> i64
+    requires part { ⌜ «so_far» ≤ total ⌝ }
+    requires small { ⌜ total ≤ 64000000 ⌝ }
+    ensures { λ r. ⌜ r ≡ cut amount total «so_far» ⌝ }
+{
+    let by_quotient = times(rate_of(amount, total), so_far);
+    let by_rest = rate_of(times(rest_of(amount, total), so_far), total);
+    by_quotient + by_rest
+}
+
+// Writes what each weight adds to the cut, and answers the last cut.
+fn write_differences(amount: i64, total: u32, weights: &[u32], into: &mut [i64]) -> i64
+    requires same { ⌜ length (now into) ≡ length (now weights) ⌝ }
+    requires whole { ⌜ total ≡ sum (now weights) ⌝ }
+    requires small { ⌜ total ≤ 64000000 ⌝ }
+    ensures last { λ r. ⌜ r ≡ cut amount total total ⌝ }
+    ensures written { λ _. ⌜ now (into .exit) ≡ differences (cut amount total) 0 (now (weights .entry)) ⌝ }
+{
+    let mut so_far = 0;
+    let mut before = 0;
+    for (i, weight) in weights.iter().enumerate() {
+        so_far += *weight;
+        let reached = cut_at(amount, total, so_far);
+        into[i] = reached - before;
+        before = reached;
+    }
+    before
+}
