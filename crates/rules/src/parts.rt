@@ -1,6 +1,8 @@
 // Whole parts of an amount, for both sharing rules.
 ghost use mathlib.Core.Path.{_≡_};
+ghost use Prim.Native.Nat.{_<_};
 ghost use lib.IntN.{pos, _-ℤ_, _*ℤ_};
+ghost use lib.ListN.{length, set};
 ghost use mir.Syntax.{w64};
 ghost use mir.Val.{SFits};
 ghost use Rattle.rules.specs.SharingRules.{truncated};
@@ -26,4 +28,12 @@ pub(crate) fn rest_of(amount: i64, total: u32) -> i64
     ensures { λ r. ⌜ r ≡ amount -ℤ truncated amount total *ℤ pos total ⌝ }
 {
     amount - times(rate_of(amount, total), total)
+}
+
+// Writes the share of one weight.
+pub(crate) fn write_share(into: &mut [i64], i: usize, share: i64)
+    requires { ⌜ i < length (now into) ⌝ }
+    ensures { λ _. ⌜ now (into .exit) ≡ set (now (into .entry)) i share ⌝ }
+{
+    into[i] = share;
 }

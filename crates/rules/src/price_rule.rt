@@ -44,7 +44,7 @@ pub trait PriceRule {
 
     // The default price.
     fn default_price(&self) -> Price
-        ensures { λ r. ⌜ r .0 ≡ default (now (self .entry)) ⌝ };
+        ensures { λ r. ⌜ r ≡ record { 0 = default (now (self .entry)) } ⌝ };
 
     // System Average, Marginal Buy and Marginal Sell Price, from the counted actions and the seven preceding averages, oldest
     // first; refused exactly where a list or a figure is out of its limits.

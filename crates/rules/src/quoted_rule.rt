@@ -1,7 +1,7 @@
 // The quoted rule: a fixed price in the place of an average.
 ghost use mathlib.Core.Path.{_≡_};
 ghost use mathlib.Core.Bool.{cond, _&&_};
-ghost use lib.IntN.{pos};
+ghost use lib.IntN.{pos, _+ℤ_, _-ℤ_};
 ghost use Rattle.amounts.specs.Limits.{isInLimit, isDefault};
 ghost use Rattle.rules.specs.Prices.{Within, isPriceQuestion, priced};
 ghost use Rattle.rules.specs.PriceRules.{quoted, makeable};
@@ -14,10 +14,12 @@ use amounts::amount::Price;
 // The fixed price, with the default price either side of it, whatever was traded.
 #[derive(Clone, Copy)]
 pub struct QuotedRule {
+    // The fixed price.
     price: Price,
-    default: Price,
+    // The default price: how far buy and sell stand off it.
+    offset: Price,
     ghost fixed: { Within (pos 0) (pos 1000000) (price .0) },
-    ghost within: { Within (pos 0) (pos 100000) (default .0) },
+    ghost within: { Within (pos 0) (pos 100000) (offset .0) },
 }
 
 impl QuotedRule {
@@ -34,28 +36,28 @@ impl QuotedRule {
     // The rule with these prices; of prices that `check` refuses, with 0 and 0.
     pub fn new(fixed_price: Price, default_price: Price) -> QuotedRule
         ensures fixed { λ r. ⌜ r .price .0 ≡ cond (isInLimit («fixed_price» .0) && isDefault («default_price» .0)) («fixed_price» .0) (pos 0) ⌝ }
-        ensures default { λ r. ⌜ r .default .0 ≡ cond (isInLimit («fixed_price» .0) && isDefault («default_price» .0)) («default_price» .0) (pos 0) ⌝ }
+        ensures default { λ r. ⌜ r .offset .0 ≡ cond (isInLimit («fixed_price» .0) && isDefault («default_price» .0)) («default_price» .0) (pos 0) ⌝ }
     {
         let Ok(()) = QuotedRule::check(fixed_price, default_price) else {
             return QuotedRule {
                 price: Price(0),
-                default: Price(0),
+                offset: Price(0),
             };
         };
         QuotedRule {
             price: fixed_price,
-            default: default_price,
+            offset: default_price,
         }
     }
 }
 
 pub impl PriceRule for QuotedRule as QuotedRulePrices {
-    ghost default = { λ rule. rule .default .0 };
+    ghost default = { λ rule. rule .offset .0 };
 
-    ghost prices = { λ rule _ _. quoted (rule .price .0) (rule .default .0) };
+    ghost prices = { λ rule _ _. quoted (rule .price .0) (rule .offset .0) };
 
     fn default_price(&self) -> Price {
-        self.default
+        self.offset
     }
 
     fn prices(
@@ -64,8 +66,19 @@ pub impl PriceRule for QuotedRule as QuotedRulePrices {
         preceding: &[Price],
     ) -> Result<(Price, Price, Price), RuleFault> {
         read_question(counted, preceding)?;
-        let buy = Price(self.price.0 + self.default.0);
-        let sell = Price(self.price.0 - self.default.0);
-        Ok((self.price, buy, sell))
+        Ok(either_side(self.price, self.default_price()))
     }
+}
+
+// A price, and another either side of it.
+fn either_side(price: Price, default: Price) -> (Price, Price, Price)
+    requires price { ⌜ Within (pos 0) (pos 1000000) (price .0) ⌝ }
+    requires default { ⌜ Within (pos 0) (pos 100000) (default .0) ⌝ }
+    ensures { λ r. ⌜ r ≡ (price, record { 0 = price .0 +ℤ default .0 }, record { 0 = price .0 -ℤ default .0 }) ⌝ }
+{
+    (
+        price,
+        Price(price.0 + default.0),
+        Price(price.0 - default.0),
+    )
 }

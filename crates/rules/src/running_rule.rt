@@ -1,8 +1,10 @@
 // The running rule: what the weights so far have together is cut at a whole number, and each share is what its weight adds.
 ghost use mathlib.Core.Path.{_≡_};
 ghost use Prim.Native.Nat.{_≤_, _<_};
-ghost use lib.IntN.{ℤ};
+ghost use lib.IntN.{ℤ, _-ℤ_};
 ghost use lib.ListN.{length};
+ghost use mir.Syntax.{w64};
+ghost use mir.Val.{SFits};
 ghost use Rattle.std.specs.declared.result.Result.the-variants.{Ok};
 ghost use Rattle.std.specs.shelf.Lists.{sum};
 ghost use Rattle.rules.specs.Sharing.{Shared, shared, isSharingQuestion};
@@ -11,6 +13,7 @@ use crate::fault::RuleFault;
 use crate::parts::rate_of;
 use crate::parts::rest_of;
 use crate::parts::times;
+use crate::parts::write_share;
 use crate::sharing_rule::SharingRule;
 use crate::weights::total_weight;
 
@@ -59,8 +62,16 @@ fn write_differences(amount: i64, total: u32, weights: &[u32], into: &mut [i64])
     for (i, weight) in weights.iter().enumerate() {
         so_far += *weight;
         let reached = cut_at(amount, total, so_far);
-        into[i] = reached - before;
+        write_share(into, i, gap(before, reached));
         before = reached;
     }
     before
+}
+
+// What a weight adds to the cut.
+fn gap(before: i64, reached: i64) -> i64
+    requires { ⌜ SFits w64 (reached -ℤ before) ⌝ }
+    ensures { λ r. ⌜ r ≡ reached -ℤ before ⌝ }
+{
+    reached - before
 }

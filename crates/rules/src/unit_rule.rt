@@ -14,6 +14,7 @@ use crate::fault::RuleFault;
 use crate::parts::rate_of;
 use crate::parts::rest_of;
 use crate::parts::times;
+use crate::parts::write_share;
 use crate::sharing_rule::SharingRule;
 use crate::weights::total_weight;
 
@@ -45,6 +46,6 @@ fn write_multiples(rate: i64, weights: &[u32], into: &mut [i64])
     ensures { λ _. ⌜ now (into .exit) ≡ map (λ weight. rate *ℤ pos weight) (now (weights .entry)) ⌝ }
 {
     for (i, weight) in weights.iter().enumerate() {
-        into[i] = times(rate, *weight);
+        write_share(into, i, times(rate, *weight));
     }
 }

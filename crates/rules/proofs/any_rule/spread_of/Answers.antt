@@ -1,5 +1,7 @@
+use mathlib.Core.Path.{_≡_, ap}
 use native.Mathlib.Omega.{arith}
 use Rattle.std.proofs.shelf.Signed.{ints}
+use Rattle.amounts.specs.declared.amount.Price.{Price}
 use Rattle.rules.specs.Prices.{isPriceQuestion}
 use Rattle.rules.proofs.Around.{priced-told}
 use Rattle.rules.proofs.any_rule.spread_of.Needs as need
@@ -37,16 +39,17 @@ returns g c =
     let preceding = c .args .preceding .now in
     let t = priced-told (isPriceQuestion counted preceding) (g .P·PriceRule .prices rule counted preceding) (c .prices .result) (c .in-Continue-average .average) (c .in-Continue-average .buy) (c .in-Continue-average .sell) (c .prices .ensures .value) (c .in-Continue-average .was tt) in
     let d = g .P·PriceRule·met .defaultWithinLimit rule in
+    let is : c .default-price .result .0 ≡ g .P·PriceRule .default rule = ap (λ (p : Price). p .0) (c .default-price .ensures) in
     let a = g .P·PriceRule·met .averageWithinLimit rule counted preceding (t .0) in
     let b = g .P·PriceRule·met .buyWithinLimit rule counted preceding (t .0) in
     let s = g .P·PriceRule·met .sellWithinLimit rule counted preceding (t .0) in (
       t .0,
       record {
-        default-is = omega (arith, ints, c .distance .ensures, c .default-price .ensures);
+        default-is = omega (arith, ints, c .distance .ensures, is);
         average-is = omega (arith, ints, c .distance-2 .ensures, t .1);
         above-is = omega (arith, ints, c .distance-3 .ensures, t .1, t .2);
         below-is = omega (arith, ints, c .distance-4 .ensures, t .1, t .3);
-        default-within = omega (arith, ints, c .distance .ensures, c .default-price .ensures, d .1);
+        default-within = omega (arith, ints, c .distance .ensures, is, d .1);
         average-within = omega (arith, ints, c .distance-2 .ensures, t .1, a .1);
         buy-within = omega (arith, ints, c .distance-2 .ensures, c .distance-3 .ensures, t .2, b);
         sell-within = omega (arith, ints, c .distance-2 .ensures, c .distance-4 .ensures, t .3, s);

@@ -49,7 +49,8 @@ loop-i-again c =
     let room : i < length (c .loop-i .into) = omega (arith, l, c .loop-i .kept .into, c .pre .same) in (
       next ∙ sym more,
       reached ∙ ap f (sym more),
-      written-more (c .loop-i .into) (differences f 0 (take i ws)) i room (c .loop-i .inv .2) (passed-difference reached (c .loop-i .inv .1) fits)
+      ap (take (i + 1)) (c .write-share .ensures)
+          ∙ written-more (c .loop-i .into) (differences f 0 (take i ws)) i room (c .loop-i .inv .2) (ap (λ z. toZ w64 (ofZ w64 z)) (c .gap .ensures) ∙ passed-difference reached (c .loop-i .inv .1) fits)
           ∙ sym (differences-more f ws i l),
     )
 

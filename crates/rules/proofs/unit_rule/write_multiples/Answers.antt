@@ -26,7 +26,8 @@ loop-i-again c =
     let l : i < length (c .loop-i .into) = omega (arith, c .loop-i-test .taken, c .loop-i .kept .into, c .pre .same) in
     let y : toZ w64 (ofZ w64 (c .times .result)) ≡ r *ℤ pos (getD ws i 0) =
     toZ-ofZ w64 (c .times .result) (record { sfits = c .times .ok }) ∙ c .times .ensures in
-    written-more (c .loop-i .into) (map (λ w. r *ℤ pos w) (take i ws)) i l (c .loop-i .inv) y
+    ap (take (i + 1)) (c .write-share .ensures)
+    ∙ written-more (c .loop-i .into) (map (λ w. r *ℤ pos w) (take i ws)) i l (c .loop-i .inv) y
     ∙ sym (map-more (λ w. r *ℤ pos w) ws i 0 (c .loop-i-test .taken))
 
 pub returns : need.returns

@@ -30,4 +30,4 @@ allRemainsWithoutWeight-law rule amount ws h z = all-remains amount (cut amount 
 pub remainderWithinMargin-law : need.remainderWithinMargin-law
 remainderWithinMargin-law rule amount ws h some =
     let e : amount -ℤ cut amount (sum ws) (sum ws) ≡ pos 0 = omega (arith, ints, cut-whole amount (sum ws) some) in
-    subst (λ z. natAbs z ≤ 0) (sym e) (omega arith)
+    omega (arith, ap natAbs e)
