@@ -5,3 +5,5 @@ mod amount_examples;
 mod listing_examples;
 #[cfg(test)]
 mod message_examples;
+#[cfg(test)]
+mod rule_examples;
