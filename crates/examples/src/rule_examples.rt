@@ -5,12 +5,12 @@ use amounts::amount::PricePartialEq;
 use amounts::layer::Layer;
 use amounts::layer::LayerDebug;
 use amounts::layer::LayerPartialEq;
-use rules::any_rule::Left;
-use rules::any_rule::LeftDebug;
-use rules::any_rule::LeftPartialEq;
 use rules::any_rule::Spread;
 use rules::any_rule::SpreadDebug;
 use rules::any_rule::SpreadPartialEq;
+use rules::any_rule::Unshared;
+use rules::any_rule::UnsharedDebug;
+use rules::any_rule::UnsharedPartialEq;
 use rules::any_rule::apportion;
 use rules::any_rule::spread_of;
 use rules::fault::RuleFault;
@@ -304,16 +304,16 @@ fn any_rule() -> Result<(), Fail> {
     let mut shares = [7, 7];
     check_eq(
         apportion(&UnitRule, -2_205_360, &[1_900, 1_200], &mut shares),
-        Ok(Left::Part(-1_260)),
+        Ok(Unshared::Part(-1_260)),
     )?;
     check_eq(
         apportion(&RunningRule, -2_205_360, &[1_900, 1_200], &mut shares),
-        Ok(Left::Part(0)),
+        Ok(Unshared::Part(0)),
     )?;
     check_eq(shares, [-1_351_672, -853_688])?;
     check_eq(
         apportion(&UnitRule, i64::MAX, &[0, 0], &mut shares),
-        Ok(Left::Everything),
+        Ok(Unshared::Everything),
     )?;
     check_eq(apportion(&RunningRule, 5, &[0], &mut shares), Err(REFUSED))?;
     check_eq(shares, [0, 0])

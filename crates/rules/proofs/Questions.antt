@@ -14,23 +14,21 @@ use Rattle.std.specs.shelf.Lists.{All, sum}
 use Rattle.std.proofs.shelf.Tests.{and-parts, and-from, and-left, and-right, le-leb, leb-true, eq-eqb, eqb-true, cases-bool, cond-true, cond-false}
 use Rattle.std.proofs.shelf.Elements.{all-weaker}
 use Rattle.std.proofs.shelf.Sums.{sumBy-le}
-use Rattle.rules.specs.Tests.{allPass}
-use Rattle.rules.specs.Sharing.{isWeight, areWeights, isSharingQuestion, Shared, shared}
+use Rattle.std.specs.shelf.Lawful.{all-pass}
+use Rattle.rules.specs.Sharing.{isWeight, isWeightCount, areWeights, isSharingQuestion, Shared, shared}
 use Rattle.rules.specs.declared.fault.RuleFault.{RuleFault}
 use Rattle.rules.specs.declared.fault.RuleFault.the-variants.{QuestionOutOfLimit}
-use Rattle.rules.proofs.Passes.{each-passes, all-pass}
+use Rattle.rules.proofs.Passes.{each-passes, pass-all}
 
-pub sharing-asked : (ws : List ℕ) (places : ℕ) → 1 ≤ length ws → length ws ≤ 32 → All (λ w. isWeight w ≡ true) ws → places ≡ length ws → isSharingQuestion ws places ≡ true
-sharing-asked ws places some few each same =
+pub sharing-asked : (ws : List ℕ) (places : ℕ) → isWeightCount (length ws) ≡ true → All (λ w. isWeight w ≡ true) ws → places ≡ length ws → isSharingQuestion ws places ≡ true
+sharing-asked ws places count each same =
     and-from (areWeights ws) (eqb places (length ws))
-    (and-from (leb 1 (length ws) && leb (length ws) 32) (allPass isWeight ws)
-    (and-from (leb 1 (length ws)) (leb (length ws) 32) (le-leb 1 (length ws) some) (le-leb (length ws) 32 few))
-    (all-pass isWeight ws each))
+    (and-from (isWeightCount (length ws)) (all-pass isWeight ws) count (pass-all isWeight ws each))
     (eq-eqb places (length ws) same)
 
-pub sharing-refused : (ws : List ℕ) (places : ℕ) → allPass isWeight ws ≡ false → isSharingQuestion ws places ≡ false
+pub sharing-refused : (ws : List ℕ) (places : ℕ) → all-pass isWeight ws ≡ false → isSharingQuestion ws places ≡ false
 sharing-refused ws places e =
-    and-left (areWeights ws) (eqb places (length ws)) (and-right (leb 1 (length ws) && leb (length ws) 32) (allPass isWeight ws) e)
+    and-left (areWeights ws) (eqb places (length ws)) (and-right (isWeightCount (length ws)) (all-pass isWeight ws) e)
 
 -- what weights within their limits are
 pub record Weights (ws : List ℕ) : Type 0 where
@@ -41,7 +39,7 @@ pub record Weights (ws : List ℕ) : Type 0 where
 
 pub weights-told : (ws : List ℕ) → areWeights ws ≡ true → Weights ws
 weights-told ws e =
-    let p = and-parts (leb 1 (length ws) && leb (length ws) 32) (allPass isWeight ws) e in
+    let p = and-parts (isWeightCount (length ws)) (all-pass isWeight ws) e in
     let q = and-parts (leb 1 (length ws)) (leb (length ws) 32) (p .0) in
     let each = each-passes isWeight ws (p .1) in
     let bound = sumBy-le (λ x. x) 2000000 ws (all-weaker (λ w. isWeight w ≡ true) (λ w. w ≤ 2000000) (λ w h. leb-true w 2000000 h) ws each) in
@@ -82,3 +80,9 @@ shared-told false shares remainder before after r x e o =
     let f : r ≡ Err QuestionOutOfLimit = ap (λ (p : Shared). p .0) e in
     let z : _≡_ {A = ℕ} 0 1 = cc in
     absurd (omega arith)
+
+pub never-refused : (ws : List ℕ) (places : ℕ) (f : RuleFault) (r : Result ℕ RuleFault) → r ≡ cond (isSharingQuestion ws places) (Ok (sum ws)) (Err QuestionOutOfLimit) → r ≡ Err f → isSharingQuestion ws places ≡ true → ⊥
+never-refused ws places f r e o y =
+    let s = cond-true {A = Result ℕ RuleFault} (isSharingQuestion ws places) (Ok (sum ws)) (Err QuestionOutOfLimit) y in
+    let z : _≡_ {A = ℕ} 0 1 = cc in
+    omega arith

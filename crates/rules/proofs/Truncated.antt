@@ -8,6 +8,7 @@ use native.Mathlib.Nat.{zero-div, div-lt-iff-lt-mul, suc-mul, add-mul, mul-assoc
 use lib.IntN.{ℤ, pos, negsuc, negℤ, natAbs, _+ℤ_, _-ℤ_, _*ℤ_}
 use lib.ListN.{take}
 use lib.Signed.{_≤ℤ_, _<ℤ_, quotZ}
+use Rattle.std.specs.Options.{valueOr}
 use Rattle.std.specs.shelf.Lists.{sum}
 use Rattle.std.specs.declared.option.Option.the-variants.{None, Some}
 use Rattle.std.proofs.shelf.Signed.{ints, by-ltZ}
@@ -15,8 +16,7 @@ use Rattle.std.proofs.shelf.Tests.{le-leb}
 use Rattle.amounts.specs.Arithmetic.{FractionDropped}
 use Rattle.amounts.proofs.Products.{times-zero, neg-times, add-times}
 use Rattle.amounts.proofs.Roundings.{fraction-dropped, div-bounds}
-use Rattle.rules.specs.PriceRules.{orElse}
-use Rattle.rules.specs.SharingRules.{truncated, cut, runningShares, FrontsTruncated}
+use Rattle.rules.specs.SharingRules.{truncated, cut, runningShares, PrefixSumsTruncated}
 use Rattle.rules.proofs.Differences.{Rising, Falling, Cuts, sum-front}
 
 pub by-sign : (P : ℤ → Type 0) → ((n : ℕ) → P (pos n)) → ((n : ℕ) → P (negℤ (pos n))) → (z : ℤ) → P z
@@ -24,7 +24,7 @@ by-sign P f g (pos n) = f n
 by-sign P f g (negsuc n) = g (suc n)
 
 pub truncated-is : (n : ℤ) (t : ℕ) → 0 < t → truncated n t ≡ quotZ n (pos t)
-truncated-is n t p = ap (λ b. orElse (cond b (Some (quotZ n (pos t))) None) (pos 0)) (le-leb 1 t p)
+truncated-is n t p = ap (λ b. valueOr (cond b (Some (quotZ n (pos t))) None) (pos 0)) (le-leb 1 t p)
 
 pub truncated-none : (n : ℤ) → truncated n 0 ≡ pos 0
 truncated-none n = refl
@@ -157,8 +157,8 @@ rest-small amount t h =
     (λ l. let e = d .1 (omega (arith, ints)) in omega (arith, ints, e .1, e .2, less))
     (λ l. let e = d .0 l in omega (arith, ints, e .1, e .2, more))
 
-pub fronts-truncated : (amount : ℤ) (ws : List ℕ) → 0 < sum ws → FrontsTruncated amount ws (runningShares amount ws)
-fronts-truncated amount ws some k =
+pub prefixes-truncated : (amount : ℤ) (ws : List ℕ) → 0 < sum ws → PrefixSumsTruncated amount ws (runningShares amount ws)
+prefixes-truncated amount ws some k =
     subst (FractionDropped (amount *ℤ pos (sum (take k ws))) (pos (sum ws)))
     (sym (sum-front (cut amount (sum ws)) ws k (cut-start amount (sum ws))))
     (truncated-dropped (amount *ℤ pos (sum (take k ws))) (sum ws) some)

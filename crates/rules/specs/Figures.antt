@@ -11,14 +11,14 @@ use Rattle.rules.specs.SharingRules.{unitShares, unitRemainder, runningShares,
 -- a question with the answer that was worked by hand
 pub data Figure : Type 0 where
   averaged : Counted → Preceding → ℤ → Figure
-  priced : ℤ → Counted → Preceding → Prices → Figure
+  byMarginal : ℤ → Counted → Preceding → Prices → Figure
   byUnit : ℤ → List ℕ → List ℤ → ℤ → Figure
   byRunning : ℤ → List ℕ → List ℤ → ℤ → Figure
 
 -- the answer is the one that the definition gives
 abbrev pub Holds : Figure → Type 0
 Holds (averaged counted preceding average) = marginalAverage counted preceding ≡ average
-Holds (priced d counted preceding prices) = marginal d counted preceding ≡ prices
+Holds (byMarginal d counted preceding prices) = marginal d counted preceding ≡ prices
 Holds (byUnit amount weights shares remainder) =
     (unitShares amount weights ≡ shares) × (unitRemainder amount weights ≡ remainder)
 Holds (byRunning amount weights shares remainder) =
@@ -40,7 +40,7 @@ abbrev pub figures : List Figure
 figures =
     averaged (actions (pos 1) (pos 10) (pos 1) (pos 11)) (preceding (pos 20000)) (pos 11)
     ∷ averaged [] (preceding (pos 21000)) (pos 20143)
-    ∷ priced (pos 100) (actions (pos 60) (pos 21000) (pos 60) (pos 24000)) (preceding (pos 20000)) (record { average = pos 22500; buy = pos 24000; sell = pos 21000 })
+    ∷ byMarginal (pos 100) (actions (pos 60) (pos 21000) (pos 60) (pos 24000)) (preceding (pos 20000)) (record { average = pos 22500; buy = pos 24000; sell = pos 21000 })
     ∷ byRunning (negsuc 2205359) (1900 ∷ 1200 ∷ []) (negsuc 1351671 ∷ negsuc 853687 ∷ []) (pos 0)
     ∷ byUnit (pos 5) (1 ∷ 1 ∷ []) (pos 2 ∷ pos 2 ∷ []) (pos 1)
     ∷ byRunning (pos 5) (1 ∷ 1 ∷ []) (pos 2 ∷ pos 3 ∷ []) (pos 0)

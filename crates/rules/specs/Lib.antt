@@ -1,5 +1,4 @@
 pub mod Faults
-pub mod Tests
 pub mod Prices
 pub mod Sharing
 pub mod PriceRules

@@ -9,16 +9,20 @@ use lib.ListN.{length}
 use Rattle.std.specs.declared.result.Result.{Result}
 use Rattle.std.specs.declared.result.Result.the-variants.{Ok, Err}
 use Rattle.amounts.specs.Arithmetic.{fits64}
-use Rattle.rules.specs.Tests.{allPass}
+use Rattle.std.specs.shelf.Lawful.{all-pass}
 use Rattle.rules.specs.declared.fault.RuleFault.{RuleFault}
 use Rattle.rules.specs.declared.fault.RuleFault.the-variants.{QuestionOutOfLimit}
 
 abbrev pub isWeight : ℕ → Bool
 isWeight weight = leb weight 2000000
 
--- 1 to 32 weights, each within its limit
+-- 1 to 32
+abbrev pub isWeightCount : ℕ → Bool
+isWeightCount count = leb 1 count && leb count 32
+
+-- so many weights, each within its limit
 abbrev pub areWeights : List ℕ → Bool
-areWeights weights = (leb 1 (length weights) && leb (length weights) 32) && allPass isWeight weights
+areWeights weights = isWeightCount (length weights) && all-pass isWeight weights
 
 -- and exactly as many places for shares
 abbrev pub isSharingQuestion : List ℕ → ℕ → Bool

@@ -5,14 +5,14 @@ use Prim.Native.Nat.{ℕ, _+_, _-_}
 use lib.IntN.{ℤ, pos, _-ℤ_, _*ℤ_}
 use lib.ListN.{take}
 use lib.Signed.{quotZ}
+use Rattle.std.specs.Options.{valueOr}
 use Rattle.std.specs.shelf.Lists.{sum}
 use Rattle.amounts.specs.Arithmetic.{divided, FractionDropped}
 use Rattle.amounts.specs.Sums.{sumZ}
-use Rattle.rules.specs.PriceRules.{orElse}
 
 -- n / total with its fraction dropped; 0 where the total is 0
 abbrev pub truncated : ℤ → ℕ → ℤ
-truncated n total = orElse (divided quotZ n (pos total)) (pos 0)
+truncated n total = valueOr (divided quotZ n (pos total)) (pos 0)
 
 -- the amount for each unit of weight
 abbrev pub rate : ℤ → List ℕ → ℤ
@@ -51,6 +51,6 @@ InProportion amount weights shares =
     (q : ℤ) × FractionDropped amount (pos (sum weights)) q × (shares ≡ map (λ weight. q *ℤ pos weight) weights)
 
 -- the first shares, however many, add up to amount × P / T with its fraction dropped, P being the sum of their weights
-abbrev pub FrontsTruncated : ℤ → List ℕ → List ℤ → Type 0
-FrontsTruncated amount weights shares =
+abbrev pub PrefixSumsTruncated : ℤ → List ℕ → List ℤ → Type 0
+PrefixSumsTruncated amount weights shares =
     (k : ℕ) → FractionDropped (amount *ℤ pos (sum (take k weights))) (pos (sum weights)) (sumZ (take k shares))

@@ -1,12 +1,11 @@
 // What is proved of every price rule and of every sharing rule at once, from the traits alone.
 ghost use mathlib.Core.Path.{_≡_};
-ghost use mathlib.Core.Bool.{cond};
 ghost use Prim.Native.Nat.{_<_};
-ghost use lib.Dec.{eqb};
 ghost use lib.IntN.{pos, negsuc, natAbs, _-ℤ_};
 ghost use lib.ListN.{length};
+ghost use Rattle.std.specs.declared.result.Result.the-variants.{Ok};
 ghost use Rattle.std.specs.shelf.Lists.{sum};
-ghost use Rattle.rules.specs.AnyRule.{SpreadAnswer, ApportionAnswer};
+ghost use Rattle.rules.specs.AnyRule.{SpreadAnswer, Apportionment, apportioned, unsharedBy, SharedByTheLaws};
 ghost use Rattle.rules.specs.Prices.{isPriceQuestion, Within};
 ghost use Rattle.rules.specs.Sharing.{isSharingQuestion};
 use crate::fault::RuleFault;
@@ -16,7 +15,7 @@ use crate::sharing_rule::SharingRule;
 use crate::weights::total_weight;
 use amounts::amount::Price;
 
-// Three prices without a sign: the average, how far buy lies above it, and how far sell lies below it; and the default price.
+// The average, the distances of buy and sell from it, and the default price, none of them below 0.
 #[derive(Clone, Copy, Debug, PartialEq, Eq)]
 pub struct Spread {
     pub default: u32,
@@ -25,10 +24,10 @@ pub struct Spread {
     pub below: u32,
 }
 
-// What is left of an amount that was shared.
+// What remains of an amount that was shared.
 #[derive(Clone, Copy, Debug, PartialEq, Eq)]
-pub enum Left {
-    // All of it, since there is no weight.
+pub enum Unshared {
+    // All of it, since all weights are 0.
     Everything,
     // Less than the sum of the weights, either side of zero.
     Part(i32),
@@ -60,27 +59,28 @@ fn distance(low: Price, high: Price) -> u32
     (high.0 - low.0) as u32
 }
 
-// Shares an amount by any rule, and says what is left of it.
+// Shares an amount by any rule, and says what remains of it.
 pub fn apportion<S: SharingRule>(
     rule: &S,
     amount: i64,
     weights: &[u32],
     into: &mut [i64],
-) -> Result<Left, RuleFault>
-    ensures { λ r. ⌜ ApportionAnswer (isSharingQuestion (now (weights .entry)) (length (now (into .entry)))) amount (now (weights .entry)) (S·SharingRule .margin (now (rule .entry)) (sum (now (weights .entry)))) (now (into .entry)) r (now (into .exit)) ⌝ }
+) -> Result<Unshared, RuleFault>
+    ensures value { λ r. ⌜ _≡_ {A = Apportionment} (r, now (into .exit)) (apportioned (isSharingQuestion (now (weights .entry)) (length (now (into .entry)))) (sum (now (weights .entry))) (S·SharingRule .shares (now (rule .entry)) amount (now (weights .entry))) (S·SharingRule .remainder (now (rule .entry)) amount (now (weights .entry))) (now (into .entry))) ⌝ }
+    ensures laws { λ r. ⌜ ((unshared : Unshared) → r ≡ Ok unshared → SharedByTheLaws amount (now (weights .entry)) (S·SharingRule .margin (now (rule .entry)) (sum (now (weights .entry)))) (now (into .exit)) (S·SharingRule .remainder (now (rule .entry)) amount (now (weights .entry)))) ⌝ }
 {
-    let total = total_weight(weights, into.len())?;
     let remainder = rule.share(amount, weights, into)?;
-    Ok(left_by(total, remainder))
+    let total = total_weight(weights, into.len())?;
+    Ok(unshared_by(total, remainder))
 }
 
-// A remainder, by the sum of the weights.
-fn left_by(total: u32, remainder: i64) -> Left
+// What remains, by the sum of the weights.
+fn unshared_by(total: u32, remainder: i64) -> Unshared
     requires { ⌜ (0 < total → natAbs remainder < 64000000) ⌝ }
-    ensures { λ r. ⌜ r ≡ cond (eqb total 0) Left.Everything (Left.Part remainder) ⌝ }
+    ensures { λ r. ⌜ r ≡ unsharedBy total remainder ⌝ }
 {
     if total == 0 {
-        return Left::Everything;
+        return Unshared::Everything;
     }
-    Left::Part(remainder as i32)
+    Unshared::Part(remainder as i32)
 }

@@ -8,8 +8,8 @@ ghost use mir.Val.{SFits};
 ghost use Rattle.rules.specs.SharingRules.{truncated};
 use amounts::rounding::toward_zero;
 
-// The amount for each unit of the total, with its fraction dropped; 0 where the total is 0.
-pub(crate) fn rate_of(amount: i64, total: u32) -> i64
+// The amount over the total, with its fraction dropped; 0 where the total is 0.
+pub(crate) fn truncated_quotient(amount: i64, total: u32) -> i64
     ensures { λ r. ⌜ r ≡ truncated amount total ⌝ }
 {
     toward_zero(amount, i64::from(total)).unwrap_or(0)
@@ -23,11 +23,11 @@ pub(crate) fn times(rate: i64, units: u32) -> i64
     rate * i64::from(units)
 }
 
-// What a whole rate for the total leaves of the amount.
+// The amount less the rate times the total.
 pub(crate) fn rest_of(amount: i64, total: u32) -> i64
     ensures { λ r. ⌜ r ≡ amount -ℤ truncated amount total *ℤ pos total ⌝ }
 {
-    amount - times(rate_of(amount, total), total)
+    amount - times(truncated_quotient(amount, total), total)
 }
 
 // Writes the share of one weight.

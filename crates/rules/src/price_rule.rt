@@ -3,7 +3,7 @@ ghost use mathlib.Core.Path.{_≡_};
 ghost use mathlib.Core.Bool.{true};
 ghost use lib.IntN.{ℤ, pos, negsuc};
 ghost use lib.Signed.{_≤ℤ_};
-ghost use Rattle.rules.specs.Prices.{Counted, Preceding, Prices, Within, isPriceQuestion, priced};
+ghost use Rattle.rules.specs.Prices.{Counted, Preceding, Prices, Within, InPriceLimit, InDefaultLimit, isPriceQuestion, priced};
 use crate::fault::RuleFault;
 use amounts::amount::Kwh;
 use amounts::amount::KwhDebug;
@@ -32,9 +32,9 @@ pub trait PriceRule {
 
     ghost prices: { Self → Counted → Preceding → Prices };
 
-    law defaultWithinLimit: { (rule : Self) → Within (pos 0) (pos 100000) (default rule) };
+    law defaultWithinLimit: { (rule : Self) → InDefaultLimit (default rule) };
 
-    law averageWithinLimit: { (rule : Self) (counted : Counted) (preceding : Preceding) → isPriceQuestion counted preceding ≡ true → Within (pos 0) (pos 1000000) (prices rule counted preceding .average) };
+    law averageWithinLimit: { (rule : Self) (counted : Counted) (preceding : Preceding) → isPriceQuestion counted preceding ≡ true → InPriceLimit (prices rule counted preceding .average) };
 
     law averageFromSellToBuy: { (rule : Self) (counted : Counted) (preceding : Preceding) → isPriceQuestion counted preceding ≡ true → Within (prices rule counted preceding .sell) (prices rule counted preceding .buy) (prices rule counted preceding .average) };
 

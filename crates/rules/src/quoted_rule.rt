@@ -3,8 +3,8 @@ ghost use mathlib.Core.Path.{_≡_};
 ghost use mathlib.Core.Bool.{cond, _&&_};
 ghost use lib.IntN.{pos, _+ℤ_, _-ℤ_};
 ghost use Rattle.amounts.specs.Limits.{isInLimit, isDefault};
-ghost use Rattle.rules.specs.Prices.{Within, isPriceQuestion, priced};
-ghost use Rattle.rules.specs.PriceRules.{quoted, makeable};
+ghost use Rattle.rules.specs.Prices.{InPriceLimit, InDefaultLimit, isPriceQuestion, priced};
+ghost use Rattle.rules.specs.PriceRules.{quoted, checkAnswer};
 use crate::fault::RuleFault;
 use crate::price_rule::CountedAction;
 use crate::price_rule::PriceRule;
@@ -18,14 +18,14 @@ pub struct QuotedRule {
     price: Price,
     // The default price: how far buy and sell stand off it.
     offset: Price,
-    ghost fixed: { Within (pos 0) (pos 1000000) (price .0) },
-    ghost within: { Within (pos 0) (pos 100000) (offset .0) },
+    ghost price_within: { InPriceLimit (price .0) },
+    ghost offset_within: { InDefaultLimit (offset .0) },
 }
 
 impl QuotedRule {
     // Whether a rule can be made of this fixed price and this default price.
     pub fn check(fixed_price: Price, default_price: Price) -> Result<(), RuleFault>
-        ensures { λ r. ⌜ r ≡ makeable (isInLimit («fixed_price» .0) && isDefault («default_price» .0)) ⌝ }
+        ensures { λ r. ⌜ r ≡ checkAnswer (isInLimit («fixed_price» .0) && isDefault («default_price» .0)) ⌝ }
     {
         if !fixed_price.is_in_limit() || !default_price.is_default() {
             return Err(RuleFault::PriceOutOfLimit);
@@ -66,14 +66,14 @@ pub impl PriceRule for QuotedRule as QuotedRulePrices {
         preceding: &[Price],
     ) -> Result<(Price, Price, Price), RuleFault> {
         read_question(counted, preceding)?;
-        Ok(either_side(self.price, self.default_price()))
+        Ok(quoted_prices(self.price, self.default_price()))
     }
 }
 
-// A price, and another either side of it.
-fn either_side(price: Price, default: Price) -> (Price, Price, Price)
-    requires price { ⌜ Within (pos 0) (pos 1000000) (price .0) ⌝ }
-    requires default { ⌜ Within (pos 0) (pos 100000) (default .0) ⌝ }
+// The fixed price, and the default price either side of it.
+fn quoted_prices(price: Price, default: Price) -> (Price, Price, Price)
+    requires price { ⌜ InPriceLimit (price .0) ⌝ }
+    requires default { ⌜ InDefaultLimit (default .0) ⌝ }
     ensures { λ r. ⌜ r ≡ (price, record { 0 = price .0 +ℤ default .0 }, record { 0 = price .0 -ℤ default .0 }) ⌝ }
 {
     (

@@ -1,4 +1,4 @@
-// The running rule: what the weights so far have together is cut at a whole number, and each share is what its weight adds.
+// The running rule: what the weights so far have together is rounded toward zero, and each share is what its weight adds.
 ghost use mathlib.Core.Path.{_≡_};
 ghost use Prim.Native.Nat.{_≤_, _<_};
 ghost use lib.IntN.{ℤ, _-ℤ_};
@@ -8,16 +8,16 @@ ghost use mir.Val.{SFits};
 ghost use Rattle.std.specs.declared.result.Result.the-variants.{Ok};
 ghost use Rattle.std.specs.shelf.Lists.{sum};
 ghost use Rattle.rules.specs.Sharing.{Shared, shared, isSharingQuestion};
-ghost use Rattle.rules.specs.SharingRules.{cut, differences, runningShares, runningRemainder, runningMargin, FrontsTruncated};
+ghost use Rattle.rules.specs.SharingRules.{cut, differences, runningShares, runningRemainder, runningMargin, PrefixSumsTruncated};
 use crate::fault::RuleFault;
-use crate::parts::rate_of;
 use crate::parts::rest_of;
 use crate::parts::times;
+use crate::parts::truncated_quotient;
 use crate::parts::write_share;
 use crate::sharing_rule::SharingRule;
 use crate::weights::total_weight;
 
-// Every amount is shared to its last unit, unless there is no weight.
+// Every amount is shared to its last unit, unless all weights are 0.
 #[derive(Clone, Copy, Debug, PartialEq, Eq)]
 pub struct RunningRule;
 
@@ -30,7 +30,7 @@ pub impl SharingRule for RunningRule as RunningRuleSharing {
 
     fn share(&self, amount: i64, weights: &[u32], into: &mut [i64]) -> Result<i64, RuleFault>
         ensures value { λ r. ⌜ _≡_ {A = Shared} (r, now (into .exit)) (shared (isSharingQuestion (now (weights .entry)) (length (now (into .entry)))) (runningShares amount (now (weights .entry))) (runningRemainder amount (now (weights .entry))) (now (into .entry))) ⌝ }
-        ensures fronts { λ r. ⌜ ((remainder : ℤ) → r ≡ Ok remainder → 0 < sum (now (weights .entry)) → FrontsTruncated amount (now (weights .entry)) (now (into .exit))) ⌝ }
+        ensures prefixes { λ r. ⌜ ((remainder : ℤ) → r ≡ Ok remainder → 0 < sum (now (weights .entry)) → PrefixSumsTruncated amount (now (weights .entry)) (now (into .exit))) ⌝ }
     {
         let total = total_weight(weights, into.len())?;
         let shared = write_differences(amount, total, weights, into);
@@ -44,8 +44,8 @@ fn cut_at(amount: i64, total: u32, so_far: u32) -> i64
     requires small { ⌜ total ≤ 64000000 ⌝ }
     ensures { λ r. ⌜ r ≡ cut amount total «so_far» ⌝ }
 {
-    let by_quotient = times(rate_of(amount, total), so_far);
-    let by_rest = rate_of(times(rest_of(amount, total), so_far), total);
+    let by_quotient = times(truncated_quotient(amount, total), so_far);
+    let by_rest = truncated_quotient(times(rest_of(amount, total), so_far), total);
     by_quotient + by_rest
 }
 

@@ -11,9 +11,9 @@ ghost use Rattle.std.specs.shelf.Lists.{All, sum};
 ghost use Rattle.rules.specs.Sharing.{Shared, shared, isSharingQuestion};
 ghost use Rattle.rules.specs.SharingRules.{unitShares, unitRemainder, unitMargin, InProportion};
 use crate::fault::RuleFault;
-use crate::parts::rate_of;
 use crate::parts::rest_of;
 use crate::parts::times;
+use crate::parts::truncated_quotient;
 use crate::parts::write_share;
 use crate::sharing_rule::SharingRule;
 use crate::weights::total_weight;
@@ -34,7 +34,7 @@ pub impl SharingRule for UnitRule as UnitRuleSharing {
         ensures proportion { λ r. ⌜ ((remainder : ℤ) → r ≡ Ok remainder → 0 < sum (now (weights .entry)) → InProportion amount (now (weights .entry)) (now (into .exit))) ⌝ }
     {
         let total = total_weight(weights, into.len())?;
-        write_multiples(rate_of(amount, total), weights, into);
+        write_multiples(truncated_quotient(amount, total), weights, into);
         Ok(rest_of(amount, total))
     }
 }

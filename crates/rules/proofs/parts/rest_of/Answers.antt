@@ -10,8 +10,8 @@ use Rattle.rules.proofs.parts.rest_of.Needs as need
 
 pub times-requires : need.times-requires
 times-requires c κs =
-    part-fits (c .args .amount) (toZ w64 (ofZ w64 (c .rate-of .result))) (c .args .total) (c .args .total) (c .fits .amount) (le-refl (c .args .total))
-    (passed-rate (c .args .amount) (c .rate-of .result) (c .args .total) (c .fits .amount) (c .rate-of .ok) (c .rate-of .ensures))
+    part-fits (c .args .amount) (toZ w64 (ofZ w64 (c .truncated-quotient .result))) (c .args .total) (c .args .total) (c .fits .amount) (le-refl (c .args .total))
+    (passed-rate (c .args .amount) (c .truncated-quotient .result) (c .args .total) (c .fits .amount) (c .truncated-quotient .ok) (c .truncated-quotient .ensures))
 
 module _ (c : need.After-times) where
   abbrev shared : ℤ
@@ -20,7 +20,7 @@ module _ (c : need.After-times) where
   -- what the code takes away from the amount
   taken : toZ w64 (ofZ w64 (c .args .amount)) -ℤ toZ w64 (ofZ w64 (c .times .result)) ≡ c .args .amount -ℤ shared
   taken =
-      let rate = passed-rate (c .args .amount) (c .rate-of .result) (c .args .total) (c .fits .amount) (c .rate-of .ok) (c .rate-of .ensures) in
+      let rate = passed-rate (c .args .amount) (c .truncated-quotient .result) (c .args .total) (c .fits .amount) (c .truncated-quotient .ok) (c .truncated-quotient .ensures) in
       ap (λ z. z -ℤ toZ w64 (ofZ w64 (c .times .result))) (toZ-ofZ w64 (c .args .amount) (c .fits .amount))
       ∙ ap (λ z. c .args .amount -ℤ z) (passed (c .times .result) shared (c .times .ok) (c .times .ensures ∙ ap (λ z. z *ℤ pos (c .args .total)) rate))
 

@@ -11,8 +11,8 @@ use Rattle.rules.proofs.running_rule.cut_at.Needs as need
 
 pub times-by-quotient-requires : need.times-by-quotient-requires
 times-by-quotient-requires c κs =
-    part-fits (c .args .amount) (toZ w64 (ofZ w64 (c .rate-of .result))) (c .args .total) (c .args .so-far) (c .fits .amount) (c .pre .part)
-    (passed-rate (c .args .amount) (c .rate-of .result) (c .args .total) (c .fits .amount) (c .rate-of .ok) (c .rate-of .ensures))
+    part-fits (c .args .amount) (toZ w64 (ofZ w64 (c .truncated-quotient .result))) (c .args .total) (c .args .so-far) (c .fits .amount) (c .pre .part)
+    (passed-rate (c .args .amount) (c .truncated-quotient .result) (c .args .total) (c .fits .amount) (c .truncated-quotient .ok) (c .truncated-quotient .ensures))
 
 pub times-requires : need.times-requires
 times-requires c κs =
@@ -20,29 +20,29 @@ times-requires c κs =
     (sym (passed-rest (c .args .amount) (c .rest-of .result) (c .args .total) (c .fits .amount) (c .rest-of .ok) (c .rest-of .ensures)))
     (rest-times-fits (c .args .amount) (c .args .total) (c .args .so-far) (c .pre .part) (c .pre .small))
 
-module _ (c : need.After-rate-of-by-rest) where
+module _ (c : need.After-truncated-quotient-by-rest) where
   abbrev rest : ℤ
   rest = c .args .amount -ℤ truncated (c .args .amount) (c .args .total) *ℤ pos (c .args .total)
 
   by-quotient : toZ w64 (ofZ w64 (c .times-by-quotient .result)) ≡ truncated (c .args .amount) (c .args .total) *ℤ pos (c .args .so-far)
   by-quotient =
       passed (c .times-by-quotient .result) (truncated (c .args .amount) (c .args .total) *ℤ pos (c .args .so-far)) (c .times-by-quotient .ok)
-      (c .times-by-quotient .ensures ∙ ap (λ z. z *ℤ pos (c .args .so-far)) (passed-rate (c .args .amount) (c .rate-of .result) (c .args .total) (c .fits .amount) (c .rate-of .ok) (c .rate-of .ensures)))
+      (c .times-by-quotient .ensures ∙ ap (λ z. z *ℤ pos (c .args .so-far)) (passed-rate (c .args .amount) (c .truncated-quotient .result) (c .args .total) (c .fits .amount) (c .truncated-quotient .ok) (c .truncated-quotient .ensures)))
 
   product : toZ w64 (ofZ w64 (c .times .result)) ≡ rest *ℤ pos (c .args .so-far)
   product =
       passed (c .times .result) (rest *ℤ pos (c .args .so-far)) (c .times .ok)
       (c .times .ensures ∙ ap (λ z. z *ℤ pos (c .args .so-far)) (passed-rest (c .args .amount) (c .rest-of .result) (c .args .total) (c .fits .amount) (c .rest-of .ok) (c .rest-of .ensures)))
 
-  by-rest : toZ w64 (ofZ w64 (c .rate-of-by-rest .result)) ≡ truncated (rest *ℤ pos (c .args .so-far)) (c .args .total)
+  by-rest : toZ w64 (ofZ w64 (c .truncated-quotient-by-rest .result)) ≡ truncated (rest *ℤ pos (c .args .so-far)) (c .args .total)
   by-rest =
-      passed (c .rate-of-by-rest .result) (truncated (rest *ℤ pos (c .args .so-far)) (c .args .total)) (c .rate-of-by-rest .ok)
-      (c .rate-of-by-rest .ensures ∙ ap (λ z. truncated z (c .args .total)) product)
+      passed (c .truncated-quotient-by-rest .result) (truncated (rest *ℤ pos (c .args .so-far)) (c .args .total)) (c .truncated-quotient-by-rest .ok)
+      (c .truncated-quotient-by-rest .ensures ∙ ap (λ z. truncated z (c .args .total)) product)
 
   -- the two parts are the cut, not a neighbour
-  is-cut : toZ w64 (ofZ w64 (c .times-by-quotient .result)) +ℤ toZ w64 (ofZ w64 (c .rate-of-by-rest .result)) ≡ cut (c .args .amount) (c .args .total) (c .args .so-far)
+  is-cut : toZ w64 (ofZ w64 (c .times-by-quotient .result)) +ℤ toZ w64 (ofZ w64 (c .truncated-quotient-by-rest .result)) ≡ cut (c .args .amount) (c .args .total) (c .args .so-far)
   is-cut =
-      ap (λ z. z +ℤ toZ w64 (ofZ w64 (c .rate-of-by-rest .result))) by-quotient
+      ap (λ z. z +ℤ toZ w64 (ofZ w64 (c .truncated-quotient-by-rest .result))) by-quotient
       ∙ ap (λ z. truncated (c .args .amount) (c .args .total) *ℤ pos (c .args .so-far) +ℤ z) by-rest
       ∙ sym (cut-split (c .args .amount) (c .args .total) (c .args .so-far))
 

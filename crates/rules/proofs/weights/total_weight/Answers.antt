@@ -9,18 +9,18 @@ use Rattle.std.specs.shelf.Lists.{All, sum}
 use Rattle.std.proofs.shelf.Elements.{all-more}
 use Rattle.std.proofs.shelf.Lists.{take-all}
 use Rattle.std.proofs.shelf.Sums.{sumBy-more}
-use Rattle.std.proofs.shelf.Tests.{eqb-false, cond-true, cond-false, le-leb, lt-leb}
+use Rattle.std.proofs.shelf.Tests.{cond-true, cond-false, leb-true}
 use Rattle.rules.specs.Sharing.{isWeight, isSharingQuestion}
 use Rattle.rules.specs.declared.fault.RuleFault.the-variants.{QuestionOutOfLimit}
 use Rattle.rules.proofs.Passes.{one-fails}
 use Rattle.rules.proofs.Questions.{sharing-asked, sharing-refused}
 use Rattle.rules.proofs.weights.total_weight.Needs as need
 
-pub returns-then-weight-gt-WEIGHT-LIMIT : need.returns-then-weight-gt-WEIGHT-LIMIT
-returns-then-weight-gt-WEIGHT-LIMIT c =
+pub returns-then-not-is-weight : need.returns-then-not-is-weight
+returns-then-not-is-weight c =
     let ws = c .args .weights .now in
     let i = c .loop-weight .weight-index in
-    let no = one-fails isWeight ws i 0 (c .loop-weight-test .taken) (lt-leb (getD ws i 0) 2000000 (c .if-weight-gt-WEIGHT-LIMIT .taken)) in
+    let no = one-fails isWeight ws i 0 (c .loop-weight-test .taken) (sym (c .if-not-is-weight .ensures tt)) in
     sym (cond-false (isSharingQuestion ws (c .args .places)) (Ok (sum ws)) (Err QuestionOutOfLimit) (sharing-refused ws (c .args .places) no))
 
 pub loop-weight-again : need.loop-weight-again
@@ -28,9 +28,9 @@ loop-weight-again c =
     let ws = c .args .weights .now in
     let i = c .loop-weight .weight-index in
     let l = c .loop-weight-test .taken in (
-      all-more (λ w. isWeight w ≡ true) ws i 0 l (c .loop-weight .inv .0) (le-leb (getD ws i 0) 2000000 (c .if-weight-gt-WEIGHT-LIMIT .left)),
+      all-more (λ w. isWeight w ≡ true) ws i 0 l (c .loop-weight .inv .0) (sym (c .if-not-is-weight .ensures tt)),
       omega (arith, c .loop-weight .inv .1, sumBy-more (λ x. x) ws i 0 l),
-      omega (arith, c .loop-weight .inv .2),
+      omega (arith, c .loop-weight .inv .2, leb-true (getD ws i 0) 2000000 (sym (c .if-not-is-weight .ensures tt))),
     )
 
 pub returns : need.returns
@@ -38,9 +38,8 @@ returns c =
     let ws = c .args .weights .now in
     let i = c .loop-weight .weight-index in
     let whole : take i ws ≡ ws = take-all i ws (c .loop-weight-test .left) in
-    let some = eqb-false (length ws) 0 (sym (c .if-is-empty .ensures tt)) in
     let each : All (λ w. isWeight w ≡ true) ws = rw whole at (c .loop-weight .inv .0) in
     let total : c .loop-weight .total ≡ sum ws = rw whole at (c .loop-weight .inv .1) in
     ap Ok total
     ∙ sym (cond-true (isSharingQuestion ws (c .args .places)) (Ok (sum ws)) (Err QuestionOutOfLimit)
-    (sharing-asked ws (c .args .places) (omega (arith, some)) (c .if-weights-gt-WEIGHTS-LIMIT .left) each (c .if-places-weights .left)))
+    (sharing-asked ws (c .args .places) (sym (c .if-not-is-weight-count .ensures tt)) each (c .if-places-weights .left)))

@@ -14,7 +14,7 @@ returns c =
     let q = question-told (c .args .counted .now) (c .args .preceding .now) (c .in-Continue-read-question .field-0 .0) (c .in-Continue-read-question .field-0 .1) (c .read-question .result) (c .read-question .ensures) (c .in-Continue-read-question .was tt) in
     record {
       value =
-          ap Ok (c .either-side .ensures)
+          ap Ok (c .quoted-prices .ensures)
           ∙ ap (λ (x : Price). Ok (p, record { 0 = p .0 +ℤ x .0 }, record { 0 = p .0 -ℤ x .0 })) (c .default-price .ensures)
           ∙ ap (λ t. priced t (quoted (p .0) d)) (sym (q .0));
     }

@@ -11,10 +11,10 @@ use mir.Val.{SFits, toZ, ofZ}
 use Rattle.std.specs.shelf.Lists.{sum}
 use Rattle.std.proofs.shelf.Signed.{toZ-ofZ}
 use Rattle.rules.specs.Sharing.{isSharingQuestion}
-use Rattle.rules.specs.SharingRules.{cut, differences, runningShares, runningRemainder, FrontsTruncated}
+use Rattle.rules.specs.SharingRules.{cut, differences, runningShares, runningRemainder, PrefixSumsTruncated}
 use Rattle.rules.proofs.Fits.{passed, passed-difference, rest-fits, cut-toward}
 use Rattle.rules.proofs.Questions.{total-told, asked-parts, as-shared}
-use Rattle.rules.proofs.Truncated.{fronts-truncated}
+use Rattle.rules.proofs.Truncated.{prefixes-truncated}
 use Rattle.rules.proofs.running_rule.RunningRuleSharing.share.Needs as need
 
 pub write-differences-shared-requires : need.write-differences-shared-requires
@@ -52,5 +52,5 @@ pub returns : need.returns
 returns c =
     record {
       value = as-shared (isSharingQuestion (ws c) (length (c .args .into .now))) (runningShares (c .args .amount) (ws c)) (runningRemainder (c .args .amount) (ws c)) (c .args .into .now) (c .write-differences-shared .last .into) (toZ w64 (ofZ w64 (toZ w64 (ofZ w64 (c .args .amount)) -ℤ toZ w64 (ofZ w64 (c .write-differences-shared .result))))) (told c .0) (passed-difference (same c) (shared-out c) (fits c)) (written c);
-      fronts = λ remainder e some. subst (FrontsTruncated (c .args .amount) (ws c)) (sym (written c)) (fronts-truncated (c .args .amount) (ws c) some);
+      prefixes = λ remainder e some. subst (PrefixSumsTruncated (c .args .amount) (ws c)) (sym (written c)) (prefixes-truncated (c .args .amount) (ws c) some);
     }

@@ -18,7 +18,7 @@ pub write-multiples-requires : need.write-multiples-requires
 write-multiples-requires c κs =
     let ws = c .args .weights .now in
     let t = total-told ws (length (c .args .into .now)) (c .in-Continue-total .total) (c .total-weight .result) (c .total-weight .ensures) (c .in-Continue-total .was tt) in
-    let r = passed-rate (c .args .amount) (c .rate-of .result) (c .in-Continue-total .total) (c .fits .amount) (c .rate-of .ok) (c .rate-of .ensures) ∙ ap (truncated (c .args .amount)) (t .1) in
+    let r = passed-rate (c .args .amount) (c .truncated-quotient .result) (c .in-Continue-total .total) (c .fits .amount) (c .truncated-quotient .ok) (c .truncated-quotient .ensures) ∙ ap (truncated (c .args .amount)) (t .1) in
     record {
       same = asked-parts ws (length (c .args .into .now)) (t .0) .1;
       fit = subst (λ z. All (λ w. SFits w64 (z *ℤ pos w)) ws) (sym r) (shares-fit (c .args .amount) ws (c .fits .amount));
@@ -35,7 +35,7 @@ module _ (c : need.After-rest-of) where
   written =
       c .write-multiples .ensures
       ∙ ap (λ z. map (λ w. z *ℤ pos w) ws)
-      (passed-rate (c .args .amount) (c .rate-of .result) (c .in-Continue-total .total) (c .fits .amount) (c .rate-of .ok) (c .rate-of .ensures) ∙ ap (truncated (c .args .amount)) (told .1))
+      (passed-rate (c .args .amount) (c .truncated-quotient .result) (c .in-Continue-total .total) (c .fits .amount) (c .truncated-quotient .ok) (c .truncated-quotient .ensures) ∙ ap (truncated (c .args .amount)) (told .1))
 
   left : toZ w64 (ofZ w64 (c .rest-of .result)) ≡ unitRemainder (c .args .amount) ws
   left =

@@ -40,4 +40,4 @@ pub allRemainsWithoutWeight-law : need.allRemainsWithoutWeight-law
 allRemainsWithoutWeight-law rule amount ws h z = all-remains amount (λ p. rate amount ws *ℤ pos p) (rate-cuts amount (sum ws)) ws z
 
 pub remainderWithinMargin-law : need.remainderWithinMargin-law
-remainderWithinMargin-law rule amount ws h some = rest-small amount (sum ws) some
+remainderWithinMargin-law rule amount ws h some = omega (arith, rest-small amount (sum ws) some)
