@@ -5,6 +5,7 @@ use amounts::amount::PricePartialEq;
 use amounts::layer::Layer;
 use amounts::layer::LayerDebug;
 use amounts::layer::LayerPartialEq;
+use amounts::wire::WirePrice;
 use rules::any_rule::Spread;
 use rules::any_rule::SpreadDebug;
 use rules::any_rule::SpreadPartialEq;
@@ -274,20 +275,20 @@ fn refused_sharing_questions() -> Result<(), Fail> {
 fn any_rule() -> Result<(), Fail> {
     let counted = [action(60, 21_000), action(60, 24_000)];
     let spread = Spread {
-        default: 100,
-        average: 22_500,
-        above: 1_500,
-        below: 1_500,
+        default: WirePrice(100),
+        average: WirePrice(22_500),
+        above: WirePrice(1_500),
+        below: WirePrice(1_500),
     };
     check_eq(
         spread_of(&MarginalRule::new(Price(100)), &counted, &averages(0)),
         Ok(spread),
     )?;
     let spread = Spread {
-        default: 100,
-        average: 30,
-        above: 100,
-        below: 100,
+        default: WirePrice(100),
+        average: WirePrice(30),
+        above: WirePrice(100),
+        below: WirePrice(100),
     };
     check_eq(
         spread_of(

@@ -15,7 +15,7 @@ use Rattle.std.proofs.shelf.Sums.{getD-le-sumBy}
 use Rattle.amounts.proofs.Products.{times-zero, times-le}
 use Rattle.rules.specs.SharingRules.{truncated, cut}
 use Rattle.rules.proofs.Differences.{Cuts}
-use Rattle.rules.proofs.Truncated.{truncated-dropped, rate-cuts, cut-cuts, cut-start, cut-whole, rest-small}
+use Rattle.rules.proofs.Truncated.{truncated-dropped, rate-cuts, cut-cuts, cut-start, cut-whole, cut-split, rest-small}
 
 -- z lies between zero and the amount
 abbrev pub Toward : ℤ → ℤ → Type 0
@@ -97,10 +97,15 @@ pub part-fits : (amount q : ℤ) (t p : ℕ) → SFits w64 amount → p ≤ t �
 part-fits amount q t p f l e =
     subst (λ z. SFits w64 (z *ℤ pos p)) (sym e) (toward-fits amount (truncated amount t *ℤ pos p) f (rate-toward amount t p l))
 
--- what a whole rate leaves of an amount that was passed on
-pub passed-rest : (amount r : ℤ) (total : ℕ) → SFits w64 amount → mag r < 9223372036854775808 → r ≡ toZ w64 (ofZ w64 amount) -ℤ truncated (toZ w64 (ofZ w64 amount)) total *ℤ pos total → toZ w64 (ofZ w64 r) ≡ amount -ℤ truncated amount total *ℤ pos total
-passed-rest amount r total f ok e =
-    passed r (amount -ℤ truncated amount total *ℤ pos total) ok (e ∙ ap (λ z. z -ℤ truncated z total *ℤ pos total) (toZ-ofZ w64 amount f))
+-- what a rate leaves of an amount, both passed on
+pub passed-rest : (amount q r : ℤ) (total : ℕ) → SFits w64 amount → toZ w64 (ofZ w64 q) ≡ truncated amount total → mag r < 9223372036854775808 → r ≡ toZ w64 (ofZ w64 amount) -ℤ toZ w64 (ofZ w64 q) *ℤ pos total → toZ w64 (ofZ w64 r) ≡ amount -ℤ truncated amount total *ℤ pos total
+passed-rest amount q r total f rate ok e =
+    passed r (amount -ℤ truncated amount total *ℤ pos total) ok
+    (e ∙ ap (λ z. z -ℤ toZ w64 (ofZ w64 q) *ℤ pos total) (toZ-ofZ w64 amount f) ∙ ap (λ z. amount -ℤ z *ℤ pos total) rate)
+
+-- a rate that was passed on is the rate of the amount that was passed on
+pub rate-passed : (amount q : ℤ) (total : ℕ) → mag q < 9223372036854775808 → q ≡ truncated (toZ w64 (ofZ w64 amount)) total → toZ w64 (ofZ w64 q) ≡ truncated (toZ w64 (ofZ w64 amount)) total
+rate-passed amount q total ok e = passed q (truncated (toZ w64 (ofZ w64 amount)) total) ok e
 
 pub passed-difference : {x y a b : ℤ} → x ≡ a → y ≡ b → SFits w64 (a -ℤ b) → toZ w64 (ofZ w64 (x -ℤ y)) ≡ a -ℤ b
 passed-difference {x} {y} {a} {b} e g f = ap (λ z. toZ w64 (ofZ w64 (z -ℤ y))) e ∙ ap (λ z. toZ w64 (ofZ w64 (a -ℤ z))) g ∙ toZ-ofZ w64 (a -ℤ b) f
@@ -114,3 +119,26 @@ difference-fits amount t p q f l m =
     by-ltZ amount (pos 0)
     (λ n. let h : amount ≤ℤ pos 0 = omega (arith, ints) in let d = c .down h p q l in let u = a .1 h in let v = b .1 h in omega (arith, ints, d, u .0, u .1, v .0, v .1))
     (λ n. let d = c .up n p q l in let u = a .0 n in let v = b .0 n in omega (arith, ints, d, u .0, u .1, v .0, v .1))
+
+-- by quotient and rest: both products fit, and the sum is the cut, not a neighbour
+pub record CutBy (amount q r : ℤ) (t p : ℕ) : Type 0 where
+  pub quotient-fits : SFits w64 (q *ℤ pos p)
+  pub rest-fits : SFits w64 (r *ℤ pos p)
+  pub is-cut : q *ℤ pos p +ℤ truncated (r *ℤ pos p) t ≡ cut amount t p
+  pub cut-fits : SFits w64 (q *ℤ pos p +ℤ truncated (r *ℤ pos p) t)
+
+pub cut-by : (amount q r : ℤ) (t p : ℕ) → SFits w64 amount → p ≤ t → t ≤ 64000000 → q ≡ truncated amount t → r ≡ amount -ℤ truncated amount t *ℤ pos t → CutBy amount q r t p
+cut-by amount q r t p f l s e g =
+    let same : q *ℤ pos p +ℤ truncated (r *ℤ pos p) t ≡ cut amount t p =
+    ap (λ z. z *ℤ pos p +ℤ truncated (r *ℤ pos p) t) e
+    ∙ ap (λ z. truncated amount t *ℤ pos p +ℤ truncated (z *ℤ pos p) t) g
+    ∙ sym (cut-split amount t p) in
+    record {
+      quotient-fits = part-fits amount q t p f l e;
+      rest-fits = subst (λ z. SFits w64 (z *ℤ pos p)) (sym g) (rest-times-fits amount t p l s);
+      is-cut = same;
+      cut-fits = subst (SFits w64) (sym same) (toward-fits amount (cut amount t p) f (cut-toward amount t p l));
+    }
+
+pub fits-as : {x y a b : ℤ} → x ≡ a → y ≡ b → SFits w64 (a -ℤ b) → SFits w64 (x -ℤ y)
+fits-as {x} {y} {a} {b} e g f = subst (λ z. SFits w64 (z -ℤ y)) (sym e) (subst (λ z. SFits w64 (a -ℤ z)) (sym g) f)

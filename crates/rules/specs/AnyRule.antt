@@ -20,14 +20,14 @@ use Rattle.rules.specs.declared.fault.RuleFault.the-variants.{QuestionOutOfLim
 
 -- the prices as distances from the average, none of them below zero
 pub record IsSpreadOf (default : ℤ) (prices : Prices) (spread : Spread) : Type 0 where
-  pub default-is : pos (spread .default) ≡ default
-  pub average-is : pos (spread .average) ≡ prices .average
-  pub above-is : pos (spread .above) ≡ prices .buy -ℤ prices .average
-  pub below-is : pos (spread .below) ≡ prices .average -ℤ prices .sell
-  pub default-within : spread .default ≤ 100000
-  pub average-within : spread .average ≤ 1000000
-  pub buy-within : (pos (spread .average) +ℤ pos (spread .above)) ≤ℤ pos 1100000
-  pub sell-within : pos (spread .below) ≤ℤ (pos (spread .average) +ℤ pos 100000)
+  pub default-is : pos (spread .default .0) ≡ default
+  pub average-is : pos (spread .average .0) ≡ prices .average
+  pub above-is : pos (spread .above .0) ≡ prices .buy -ℤ prices .average
+  pub below-is : pos (spread .below .0) ≡ prices .average -ℤ prices .sell
+  pub default-within : spread .default .0 ≤ 100000
+  pub average-within : spread .average .0 ≤ 1000000
+  pub buy-within : (pos (spread .average .0) +ℤ pos (spread .above .0)) ≤ℤ pos 1100000
+  pub sell-within : pos (spread .below .0) ≤ℤ (pos (spread .average .0) +ℤ pos 100000)
 
 abbrev pub SpreadAnswer : Bool → ℤ → Prices → Result Spread RuleFault → Type 0
 SpreadAnswer inLimits default prices (Ok spread) = (inLimits ≡ true) × IsSpreadOf default prices spread

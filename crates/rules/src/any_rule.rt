@@ -14,14 +14,17 @@ use crate::price_rule::PriceRule;
 use crate::sharing_rule::SharingRule;
 use crate::weights::total_weight;
 use amounts::amount::Price;
+use amounts::wire::WirePrice;
+use amounts::wire::WirePriceDebug;
+use amounts::wire::WirePricePartialEq;
 
 // The average, the distances of buy and sell from it, and the default price, none of them below 0.
 #[derive(Clone, Copy, Debug, PartialEq, Eq)]
 pub struct Spread {
-    pub default: u32,
-    pub average: u32,
-    pub above: u32,
-    pub below: u32,
+    pub default: WirePrice,
+    pub average: WirePrice,
+    pub above: WirePrice,
+    pub below: WirePrice,
 }
 
 // What remains of an amount that was shared.
@@ -51,12 +54,12 @@ pub fn spread_of<P: PriceRule>(
 }
 
 // How far a price lies above another.
-fn distance(low: Price, high: Price) -> u32
+fn distance(low: Price, high: Price) -> WirePrice
     requires low { ⌜ Within (negsuc 99999) (pos 1000000) (low .0) ⌝ }
     requires above { ⌜ Within (low .0) (pos 1100000) (high .0) ⌝ }
-    ensures { λ r. ⌜ pos r ≡ high .0 -ℤ low .0 ⌝ }
+    ensures { λ r. ⌜ pos (r .0) ≡ high .0 -ℤ low .0 ⌝ }
 {
-    (high.0 - low.0) as u32
+    WirePrice((high.0 - low.0) as u32)
 }
 
 // Shares an amount by any rule, and says what remains of it.

@@ -23,11 +23,12 @@ pub(crate) fn times(rate: i64, units: u32) -> i64
     rate * i64::from(units)
 }
 
-// The amount less the rate times the total.
-pub(crate) fn rest_of(amount: i64, total: u32) -> i64
-    ensures { λ r. ⌜ r ≡ amount -ℤ truncated amount total *ℤ pos total ⌝ }
+// What the rate leaves of the amount.
+pub(crate) fn rest_of(amount: i64, rate: i64, total: u32) -> i64
+    requires { ⌜ rate ≡ truncated amount total ⌝ }
+    ensures { λ r. ⌜ r ≡ amount -ℤ rate *ℤ pos total ⌝ }
 {
-    amount - times(truncated_quotient(amount, total), total)
+    amount - times(rate, total)
 }
 
 // Writes the share of one weight.

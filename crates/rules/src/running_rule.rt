@@ -1,14 +1,14 @@
 // The running rule: what the weights so far have together is rounded toward zero, and each share is what its weight adds.
 ghost use mathlib.Core.Path.{_≡_};
 ghost use Prim.Native.Nat.{_≤_, _<_};
-ghost use lib.IntN.{ℤ, _-ℤ_};
+ghost use lib.IntN.{ℤ, pos, _+ℤ_, _-ℤ_, _*ℤ_};
 ghost use lib.ListN.{length};
 ghost use mir.Syntax.{w64};
 ghost use mir.Val.{SFits};
 ghost use Rattle.std.specs.declared.result.Result.the-variants.{Ok};
 ghost use Rattle.std.specs.shelf.Lists.{sum};
 ghost use Rattle.rules.specs.Sharing.{Shared, shared, isSharingQuestion};
-ghost use Rattle.rules.specs.SharingRules.{cut, differences, runningShares, runningRemainder, runningMargin, PrefixSumsTruncated};
+ghost use Rattle.rules.specs.SharingRules.{truncated, cut, differences, runningShares, runningRemainder, runningMargin, PrefixSumsTruncated};
 use crate::fault::RuleFault;
 use crate::parts::rest_of;
 use crate::parts::times;
@@ -38,15 +38,14 @@ pub impl SharingRule for RunningRule as RunningRuleSharing {
     }
 }
 
-// What the weights so far have of the amount together: by quotient and rest, so that no product leaves 64 bits.
-fn cut_at(amount: i64, total: u32, so_far: u32) -> i64
-    requires part { ⌜ «so_far» ≤ total ⌝ }
-    requires small { ⌜ total ≤ 64000000 ⌝ }
-    ensures { λ r. ⌜ r ≡ cut amount total «so_far» ⌝ }
+// What the weights so far have of an amount together, by its quotient and its rest, so that no product leaves 64 bits.
+fn cut_at(quotient: i64, rest: i64, total: u32, so_far: u32) -> i64
+    requires quotient { ⌜ SFits w64 (quotient *ℤ pos «so_far») ⌝ }
+    requires rest { ⌜ SFits w64 (rest *ℤ pos «so_far») ⌝ }
+    requires both { ⌜ SFits w64 (quotient *ℤ pos «so_far» +ℤ truncated (rest *ℤ pos «so_far») total) ⌝ }
+    ensures { λ r. ⌜ r ≡ quotient *ℤ pos «so_far» +ℤ truncated (rest *ℤ pos «so_far») total ⌝ }
 {
-    let by_quotient = times(truncated_quotient(amount, total), so_far);
-    let by_rest = truncated_quotient(times(rest_of(amount, total), so_far), total);
-    by_quotient + by_rest
+    times(quotient, so_far) + truncated_quotient(times(rest, so_far), total)
 }
 
 // Writes what each weight adds to the cut, and answers the last cut.
@@ -57,11 +56,13 @@ fn write_differences(amount: i64, total: u32, weights: &[u32], into: &mut [i64])
     ensures last { λ r. ⌜ r ≡ cut amount total total ⌝ }
     ensures written { λ _. ⌜ now (into .exit) ≡ differences (cut amount total) 0 (now (weights .entry)) ⌝ }
 {
+    let quotient = truncated_quotient(amount, total);
+    let rest = rest_of(amount, quotient, total);
     let mut so_far = 0;
     let mut before = 0;
     for (i, weight) in weights.iter().enumerate() {
         so_far += *weight;
-        let reached = cut_at(amount, total, so_far);
+        let reached = cut_at(quotient, rest, total, so_far);
         write_share(into, i, gap(before, reached));
         before = reached;
     }

@@ -34,8 +34,9 @@ pub impl SharingRule for UnitRule as UnitRuleSharing {
         ensures proportion { λ r. ⌜ ((remainder : ℤ) → r ≡ Ok remainder → 0 < sum (now (weights .entry)) → InProportion amount (now (weights .entry)) (now (into .exit))) ⌝ }
     {
         let total = total_weight(weights, into.len())?;
-        write_multiples(truncated_quotient(amount, total), weights, into);
-        Ok(rest_of(amount, total))
+        let rate = truncated_quotient(amount, total);
+        write_multiples(rate, weights, into);
+        Ok(rest_of(amount, rate, total))
     }
 }
 
