@@ -110,14 +110,11 @@ fn refused_price_questions() -> Result<(), Fail> {
         (5, 5, 1_000_001, false),
     ] {
         let counted = [action(5, 5), action(quantity, price)];
-        let answer = MarginalRule::new(Price(0)).prices(&counted, &averages(last));
-        check_eq(answer.is_ok(), within)?;
-        check_eq(
-            QuotedRule::new(Price(0), Price(0))
-                .prices(&counted, &averages(last))
-                .is_ok(),
-            within,
-        )?;
+        let by_marginal = MarginalRule::new(Price(0)).prices(&counted, &averages(last));
+        let by_quoted = QuotedRule::new(Price(0), Price(0)).prices(&counted, &averages(last));
+        check_eq((by_marginal.is_ok(), by_quoted.is_ok()), (within, within))?;
+        check_eq(by_marginal == Err(REFUSED), !within)?;
+        check_eq(by_quoted == Err(REFUSED), !within)?;
     }
     let eight = [Price(5); 8];
     check_eq(
@@ -126,6 +123,10 @@ fn refused_price_questions() -> Result<(), Fail> {
     )?;
     check_eq(
         MarginalRule::new(Price(0)).prices(&[], &eight),
+        Err(REFUSED),
+    )?;
+    check_eq(
+        QuotedRule::new(Price(0), Price(0)).prices(&[], &eight[..6]),
         Err(REFUSED),
     )?;
     check_eq(
@@ -164,6 +165,7 @@ fn made_rules() -> Result<(), Fail> {
         )?;
     }
     for (default, made, check) in [
+        (0, 0, Ok(())),
         (100_000, 100_000, Ok(())),
         (100_001, 0, refused),
         (-1, 0, refused),
@@ -178,6 +180,7 @@ fn made_rules() -> Result<(), Fail> {
         (RuleFault::PriceOutOfLimit.number(), REFUSED.number()),
         (11, 50),
     )?;
+    check_eq(RuleFault::PriceOutOfLimit.layer(), Layer::Rule)?;
     check_eq(REFUSED.layer(), Layer::Rule)
 }
 
@@ -220,6 +223,16 @@ fn shares_of_two() -> Result<(), Fail> {
         check_eq(shares, by_running)?;
     }
     Ok(())
+}
+
+// A single weight, the fewest that a rule takes.
+#[test]
+fn share_of_one() -> Result<(), Fail> {
+    let mut share = [7];
+    check_eq(UnitRule.share(-5, &[3], &mut share), Ok(-2))?;
+    check_eq(share, [-3])?;
+    check_eq(RunningRule.share(-5, &[3], &mut share), Ok(0))?;
+    check_eq(share, [-5])
 }
 
 // The ends of 64 bits over the largest sum of weights, 64,000,000.
@@ -273,12 +286,12 @@ fn refused_sharing_questions() -> Result<(), Fail> {
 // Code that knows only the traits, over both rules of each kind.
 #[test]
 fn any_rule() -> Result<(), Fail> {
-    let counted = [action(60, 21_000), action(60, 24_000)];
+    let counted = [action(20, 21_000), action(60, 25_000)];
     let spread = Spread {
         default: WirePrice(100),
-        average: WirePrice(22_500),
-        above: WirePrice(1_500),
-        below: WirePrice(1_500),
+        average: WirePrice(24_000),
+        above: WirePrice(1_000),
+        below: WirePrice(3_000),
     };
     check_eq(
         spread_of(&MarginalRule::new(Price(100)), &counted, &averages(0)),
@@ -307,6 +320,7 @@ fn any_rule() -> Result<(), Fail> {
         apportion(&UnitRule, -2_205_360, &[1_900, 1_200], &mut shares),
         Ok(Unshared::Part(-1_260)),
     )?;
+    check_eq(shares, [-1_350_900, -853_200])?;
     check_eq(
         apportion(&RunningRule, -2_205_360, &[1_900, 1_200], &mut shares),
         Ok(Unshared::Part(0)),

@@ -41,12 +41,16 @@ figures =
     averaged (actions (pos 1) (pos 10) (pos 1) (pos 11)) (preceding (pos 20000)) (pos 11)
     ∷ averaged [] (preceding (pos 21000)) (pos 20143)
     ∷ byMarginal (pos 100) (actions (pos 60) (pos 21000) (pos 60) (pos 24000)) (preceding (pos 20000)) (record { average = pos 22500; buy = pos 24000; sell = pos 21000 })
+    ∷ byUnit (negsuc 2205359) (1900 ∷ 1200 ∷ []) (negsuc 1350899 ∷ negsuc 853199 ∷ []) (negsuc 1259)
     ∷ byRunning (negsuc 2205359) (1900 ∷ 1200 ∷ []) (negsuc 1351671 ∷ negsuc 853687 ∷ []) (pos 0)
     ∷ byUnit (pos 5) (1 ∷ 1 ∷ []) (pos 2 ∷ pos 2 ∷ []) (pos 1)
     ∷ byRunning (pos 5) (1 ∷ 1 ∷ []) (pos 2 ∷ pos 3 ∷ []) (pos 0)
+    ∷ byUnit (negsuc 4) (1 ∷ 1 ∷ []) (negsuc 1 ∷ negsuc 1 ∷ []) (negsuc 0)
+    ∷ byRunning (negsuc 4) (1 ∷ 1 ∷ []) (negsuc 1 ∷ negsuc 2 ∷ []) (pos 0)
     ∷ byUnit (pos 5) (0 ∷ 0 ∷ []) (pos 0 ∷ pos 0 ∷ []) (pos 5)
     ∷ byRunning (pos 5) (0 ∷ 0 ∷ []) (pos 0 ∷ pos 0 ∷ []) (pos 5)
     ∷ byUnit (pos 5) (0 ∷ 4 ∷ []) (pos 0 ∷ pos 4 ∷ []) (pos 1)
+    ∷ byRunning (pos 5) (0 ∷ 4 ∷ []) (pos 0 ∷ pos 5 ∷ []) (pos 0)
     ∷ []
 
 abbrev pub AllFiguresHold : Type 0

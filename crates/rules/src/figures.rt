@@ -3,10 +3,10 @@ ghost use mathlib.Core.Path.{_≡_};
 ghost use lib.ListN.{length};
 ghost use Rattle.rules.specs.Figures.{figures, AllFiguresHold};
 
-// How many figures were worked by hand; each of them is what the definitions give.
+// How many figures are listed, each worked by hand; each is what the definitions give.
 pub fn worked_figures() -> usize
     ensures count { λ r. ⌜ r ≡ length figures ⌝ }
     ensures hold { λ _. ⌜ AllFiguresHold ⌝ }
 {
-    9
+    13
 }
