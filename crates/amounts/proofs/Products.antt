@@ -1,6 +1,6 @@
 -- Products of a whole number and a natural number: they add up on either side, and keep the order.
-use Rattle.std.proofs.Common.{◌≡◌, ℕ, zero, suc, ◌+◌, ◌*◌, ◌<◌, ◌≤◌, ℤ, pos, negsuc, ◌+ℤ◌, ◌-ℤ◌, ◌*ℤ◌, neg_ℤ, ◌≤ℤ◌, ◌<ℤ◌, sym, refl, ap, ◌∙◌, add-zero, add-suc, arith}
-use lib.IntN.{*ℤ_comm, *ℤ-zero, suc_ℤ, suc_ℤ-*ℤ}
+use Rattle.std.proofs.Common.{◌≡◌, ℕ, zero, suc, ◌+◌, ℤ, pos, ◌+ℤ◌, ◌*ℤ◌, neg_ℤ, ◌≤ℤ◌, ap, ◌∙◌, add-zero, add-suc, arith}
+use lib.IntN.{*ℤ_comm, *ℤ-zero, suc_ℤ-*ℤ}
 use Rattle.std.proofs.lemmas.Int.{ints}
 
 pub times_suc : (z : ℤ) (d : ℕ) → z *ℤ pos (suc d) ≡ z *ℤ pos d +ℤ z

@@ -1,5 +1,5 @@
 -- Tests against bounds, told by the order; and sums and products that fit 64 bits.
-use Rattle.std.proofs.Common.{◌≡◌, ℕ, Bool, true, cond, T, ℤ, pos, negsuc, ◌≤ℤ◌, Some, None, Option, sym, subst, arith}
+use Rattle.std.proofs.Common.{◌≡◌, ℕ, true, T, ℤ, pos, negsuc, ◌≤ℤ◌, Some, None, Option, sym, subst, arith}
 use lib.Signed.{le_z}
 use Rattle.std.proofs.lemmas.Int.{ints}
 use Rattle.std.proofs.lemmas.Bool.{and_parts, and_from, cond-true}

@@ -1,4 +1,6 @@
 // What every layer shares: quantities, prices and money, their limits, rounding, and the layers that refuse.
+#![tactic(auto)]
+
 pub mod amount;
 pub mod layer;
 pub mod limits;

@@ -1,4 +1,6 @@
 // Examples that the crates below are run on. Expected values are worked by hand.
+#![tactic(auto)]
+
 #[cfg(test)]
 mod amount_examples;
 #[cfg(test)]

@@ -1,4 +1,6 @@
 // What a run of bytes says, line by line.
+#![tactic(auto)]
+
 pub mod line;
 mod lines;
 pub mod listing;

@@ -1,4 +1,6 @@
 // Lists the messages on standard input: what each says, field by field, and where they break.
+#![tactic(auto)]
+
 use lister::listing::Listing;
 use messages::input::INPUT_LIMIT;
 use std::io;

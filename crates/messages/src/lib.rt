@@ -1,4 +1,6 @@
 // The messages of the settlement unit: a reader over borrowed bytes and a writer into a lent buffer.
+#![tactic(auto)]
+
 pub mod event;
 pub mod fault;
 pub mod input;

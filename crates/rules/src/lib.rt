@@ -1,4 +1,6 @@
 // Price rules and sharing rules: what a rule means, two of each kind, and what they refuse.
+#![tactic(auto)]
+
 pub mod any_rule;
 pub mod fault;
 pub mod figures;

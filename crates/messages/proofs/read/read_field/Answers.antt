@@ -11,8 +11,8 @@ returns c =
     let place = c.args.place in
     let bytes : (i : ℕ) → get_or left i 0 < 256 = λ i. search rules in
     let long : 3 ≤ length left = search rules in
-    let is : c.read-value.result ≡ field place left =
-    c.read-value.ensures
-    ∙ (λ i. tagged place (get_or left 0 0) (c.from-be-bytes.ensures i) (to_end 3 left i))
+    let is : c.read_value.result ≡ field place left =
+    c.read_value.ensures
+    ∙ (λ i. tagged place (get_or left 0 0) (c.from_be_bytes.ensures i) (to_end 3 left i))
     ∙ sym (field_at place left long) in
     record { value = is; message = subst (λ r. IfOk r (Message place left)) (sym is) (field_message place left bytes) }

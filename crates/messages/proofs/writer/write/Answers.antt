@@ -6,6 +6,6 @@ pub returns : goal.returns
 returns c =
     record {
       value = search rules;
-      after = c.write-event.ensures.after;
-      reads = reads_back c.args.event.now c.args.buffer.now c.args.place _ _ c.write-event.ensures.whole (search rules) c.write-event.ensures.value c.write-event.ensures.after;
+      after = c.write_event.ensures.after;
+      reads = reads_back c.args.event.now c.args.buffer.now c.args.place _ _ c.write_event.ensures.whole (search rules) c.write_event.ensures.value c.write_event.ensures.after;
     }

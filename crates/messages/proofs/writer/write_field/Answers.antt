@@ -9,5 +9,5 @@ returns c =
     let rest : drop (place + long - place) (drop place buffer) ≡ drop (place + long) buffer = drop-drop (place + long - place) place buffer ∙ ap (λ n. drop n buffer) (omega arith) in
     record {
       value = search rules;
-      after = λ i. take place buffer ++ (c.copy-from-slice.ensures.after i ++ rest i);
+      after = λ i. take place buffer ++ (c.copy_from_slice.ensures.after i ++ rest i);
     }

@@ -22,29 +22,29 @@ as_apportioned b total shares remainder before xs u y e f =
     subst (λ t. ◌≡◌ {A = Apportionment} (Ok u, xs) (apportioned t total shares remainder before)) (sym y)
     (ap (λ v. (Ok v, xs)) e ∙ ap (λ ys. (Ok (unshared_by total remainder), ys)) f)
 
-pub returns-in-err-total : goal.returns-in-err-total
-returns-in-err-total g c =
+pub returns-in_err-total : goal.returns-in_err-total
+returns-in_err-total g c =
     let ws = c.args.weights.now in
-    let s = shared_told (is_sharing_question ws (length c.args.into.now)) (g.S.SharingRule.shares c.args.rule.now (to_z w64 (of_z w64 c.args.amount)) ws) (g.S.SharingRule.remainder c.args.rule.now (to_z w64 (of_z w64 c.args.amount)) ws) c.args.into.now c.share.new.into c.share.result c.in-ok-remainder.remainder c.share.ensures.value c.in-ok-remainder.was in
+    let s = shared_told (is_sharing_question ws (length c.args.into.now)) (g.S.SharingRule.shares c.args.rule.now (to_z w64 (of_z w64 c.args.amount)) ws) (g.S.SharingRule.remainder c.args.rule.now (to_z w64 (of_z w64 c.args.amount)) ws) c.args.into.now c.share.new.into c.share.result c.in_ok-remainder.remainder c.share.ensures.value c.in_ok-remainder.was in
     let yes = subst (λ (n : ℕ). is_sharing_question ws n ≡ true) (sym c.share.auto.into) s.0 in
-    absurd (never_refused ws (length c.share.new.into) c.in-err-total.field-0.0 c.total-weight.result c.total-weight.ensures c.in-err-total.was yes)
+    absurd (never_refused ws (length c.share.new.into) c.in_err-total.field-0.0 c.total_weight.result c.total_weight.ensures c.in_err-total.was yes)
 
-pub unshared-by-requires : goal.unshared-by-requires
-unshared-by-requires g c κs some =
+pub unshared_by-requires : goal.unshared_by-requires
+unshared_by-requires g c κs some =
     let rule = c.args.rule.now in
     let amount = c.args.amount in
     let ws = c.args.weights.now in
     let places = length c.args.into.now in
     let same = to_z-of_z w64 amount c.ranges.amount in
-    let t = total_told ws (length c.share.new.into) c.in-ok-total.total c.total-weight.result c.total-weight.ensures c.in-ok-total.was in
-    let s = shared_told (is_sharing_question ws places) (g.S.SharingRule.shares rule amount ws) (g.S.SharingRule.remainder rule amount ws) c.args.into.now c.share.new.into c.share.result c.in-ok-remainder.remainder
-    (c.share.ensures.value ∙ ap (λ z. shared (is_sharing_question ws places) (g.S.SharingRule.shares rule z ws) (g.S.SharingRule.remainder rule z ws) c.args.into.now) same) c.in-ok-remainder.was in
+    let t = total_told ws (length c.share.new.into) c.in_ok-total.total c.total_weight.result c.total_weight.ensures c.in_ok-total.was in
+    let s = shared_told (is_sharing_question ws places) (g.S.SharingRule.shares rule amount ws) (g.S.SharingRule.remainder rule amount ws) c.args.into.now c.share.new.into c.share.result c.in_ok-remainder.remainder
+    (c.share.ensures.value ∙ ap (λ z. shared (is_sharing_question ws places) (g.S.SharingRule.shares rule z ws) (g.S.SharingRule.remainder rule z ws) c.args.into.now) same) c.in_ok-remainder.was in
     let h = shareable amount ws places c.ranges.amount s.0 in
     let above : 0 < sum ws = omega (arith, some, t.1) in
     let m = g.met.S.SharingRule.remainder_within_margin rule amount ws h above in
     let b = g.met.S.SharingRule.margin_below_total rule (sum ws) above in
     let w = weights_told ws h.weights_fit in
-    let small : nat_abs c.in-ok-remainder.remainder < 64000000 = subst (λ z. nat_abs z < 64000000) (sym s.1) (omega (arith, m, b, w.total, above)) in
+    let small : nat_abs c.in_ok-remainder.remainder < 64000000 = subst (λ z. nat_abs z < 64000000) (sym s.1) (omega (arith, m, b, w.total, above)) in
     omega (arith, ints, small)
 
 pub returns : goal.returns
@@ -54,13 +54,13 @@ returns g c =
     let ws = c.args.weights.now in
     let places = length c.args.into.now in
     let same = to_z-of_z w64 amount c.ranges.amount in
-    let t = total_told ws (length c.share.new.into) c.in-ok-total.total c.total-weight.result c.total-weight.ensures c.in-ok-total.was in
-    let s = shared_told (is_sharing_question ws places) (g.S.SharingRule.shares rule amount ws) (g.S.SharingRule.remainder rule amount ws) c.args.into.now c.share.new.into c.share.result c.in-ok-remainder.remainder
-    (c.share.ensures.value ∙ ap (λ z. shared (is_sharing_question ws places) (g.S.SharingRule.shares rule z ws) (g.S.SharingRule.remainder rule z ws) c.args.into.now) same) c.in-ok-remainder.was in
+    let t = total_told ws (length c.share.new.into) c.in_ok-total.total c.total_weight.result c.total_weight.ensures c.in_ok-total.was in
+    let s = shared_told (is_sharing_question ws places) (g.S.SharingRule.shares rule amount ws) (g.S.SharingRule.remainder rule amount ws) c.args.into.now c.share.new.into c.share.result c.in_ok-remainder.remainder
+    (c.share.ensures.value ∙ ap (λ z. shared (is_sharing_question ws places) (g.S.SharingRule.shares rule z ws) (g.S.SharingRule.remainder rule z ws) c.args.into.now) same) c.in_ok-remainder.was in
     let h = shareable amount ws places c.ranges.amount s.0 in
-    let fits : SFits w64 c.in-ok-remainder.remainder = search rules in
-    let left : c.unshared-by.result ≡ unshared_by (sum ws) (g.S.SharingRule.remainder rule amount ws) =
-    c.unshared-by.ensures ∙ ap (unshared_by c.in-ok-total.total) (to_z-of_z w64 c.in-ok-remainder.remainder fits ∙ s.1)
+    let fits : SFits w64 c.in_ok-remainder.remainder = search rules in
+    let left : c.unshared_by.result ≡ unshared_by (sum ws) (g.S.SharingRule.remainder rule amount ws) =
+    c.unshared_by.ensures ∙ ap (unshared_by c.in_ok-total.total) (to_z-of_z w64 c.in_ok-remainder.remainder fits ∙ s.1)
     ∙ ap (λ (n : ℕ). unshared_by n (g.S.SharingRule.remainder rule amount ws)) t.1 in
     let laws : SharedByTheLaws amount ws (g.S.SharingRule.margin rule (sum ws)) (g.S.SharingRule.shares rule amount ws) (g.S.SharingRule.remainder rule amount ws) =
     record {
@@ -75,6 +75,6 @@ returns g c =
       margin_below_total = g.met.S.SharingRule.margin_below_total rule (sum ws);
     } in
     record {
-      value = as_apportioned (is_sharing_question ws places) (sum ws) (g.S.SharingRule.shares rule amount ws) (g.S.SharingRule.remainder rule amount ws) c.args.into.now c.share.new.into c.unshared-by.result s.0 left s.2;
+      value = as_apportioned (is_sharing_question ws places) (sum ws) (g.S.SharingRule.shares rule amount ws) (g.S.SharingRule.remainder rule amount ws) c.args.into.now c.share.new.into c.unshared_by.result s.0 left s.2;
       laws = λ unshared e. subst (λ xs. SharedByTheLaws amount ws (g.S.SharingRule.margin rule (sum ws)) xs (g.S.SharingRule.remainder rule amount ws)) (sym s.2) laws;
     }

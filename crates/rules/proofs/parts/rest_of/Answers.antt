@@ -16,11 +16,11 @@ module _ (c : goal.After-times) where
 
   shared : to_z w64 (of_z w64 c.times.result) ≡ c.args.rate *ℤ pos c.args.total
   shared =
-      passed c.times.result (c.args.rate *ℤ pos c.args.total) c.times.type-inv
+      passed c.times.result (c.args.rate *ℤ pos c.args.total) c.times.type_inv
       (c.times.ensures ∙ ap (λ z. z *ℤ pos c.args.total) (to_z-of_z w64 c.args.rate c.ranges.rate))
 
-pub overflow-sub-result : goal.overflow-sub-result
-overflow-sub-result c = fits_as (to_z-of_z w64 c.args.amount c.ranges.amount) (shared c) (fits c)
+pub overflow_sub-result : goal.overflow_sub-result
+overflow_sub-result c = fits_as (to_z-of_z w64 c.args.amount c.ranges.amount) (shared c) (fits c)
 
 pub returns : goal.returns
 returns c = passed_difference (to_z-of_z w64 c.args.amount c.ranges.amount) (shared c) (fits c)

@@ -18,8 +18,8 @@ loop-i-preserved c =
     let r = to_z w64 (of_z w64 c.args.rate) in
     let l : i < length c.loop-i.into = omega (arith, c.loop-i-test.true, c.loop-i.auto.into, c.requires.same) in
     let y : to_z w64 (of_z w64 c.times.result) ≡ r *ℤ pos (get_or ws i 0) =
-    to_z-of_z w64 c.times.result (record { sfits = c.times.type-inv }) ∙ c.times.ensures in
-    ap (take (i + 1)) c.write-share.ensures
+    to_z-of_z w64 c.times.result (record { sfits = c.times.type_inv }) ∙ c.times.ensures in
+    ap (take (i + 1)) c.write_share.ensures
     ∙ written_more c.loop-i.into (map (λ w. r *ℤ pos w) (take i ws)) i l c.loop-i.invariant y
     ∙ sym (map_more (λ w. r *ℤ pos w) ws i 0 c.loop-i-test.true)
 

@@ -8,5 +8,5 @@ pub returns : goal.returns
 returns c =
     let bytes = c.args.bytes.now in
     let fit : (i : ℕ) → get_or bytes i 0 < 256 = λ i. search rules in
-    let lines : coming_at c.first-stage.result c.new.result.bytes.now 0 c.new.result.place ≡ listed bytes = search rules in
+    let lines : coming_at c.first_stage.result c.new.result.bytes.now 0 c.new.result.place ≡ listed bytes = search rules in
     record { lines = lines; tells = λ h. subst (Tells bytes 0 0) (sym lines) (listed_tells bytes fit h) }

@@ -6,8 +6,8 @@ use Rattle.lister.specs.Lines.{coming_at, lines_left}
 use Rattle.lister.proofs.Enough.{left_by, end_at}
 use Rattle.lister.proofs.listing.Listing.read_line.Goals as goal
 
-pub overflow-add-self : goal.overflow-add-self
-overflow-add-self c =
+pub overflow_add-self : goal.overflow_add-self
+overflow_add-self c =
     let fits : c.place-place.result < 2 ^ 64 = search rules in
     record { fits = omega (arith, c.args.self.now.counted) }
 

@@ -20,12 +20,12 @@ returns-then-self c =
       same = refl;
     }
 
-pub returns-in-err-event : goal.returns-in-err-event
-returns-in-err-event c =
+pub returns-in_err-event : goal.returns-in_err-event
+returns-in_err-event c =
     let reader = c.args.self.now in
-    let p = err_from_is_err_and c.from-residual.result c.from-residual.ensures.1 in
-    let is : c.from-residual.result ≡ Err c.in-err-event.field-0.0 = p.1 ∙ ap Err p.2 in
-    let value = is ∙ ap some (sym c.in-err-event.was) ∙ decode_at reader.place reader.bytes.now _ (search rules) c.read-field.ensures.value in
+    let p = err_from_is_err_and c.from_residual.result c.from_residual.ensures.1 in
+    let is : c.from_residual.result ≡ Err c.in_err-event.field-0.0 = p.1 ∙ ap Err p.2 in
+    let value = is ∙ ap some (sym c.in_err-event.was) ∙ decode_at reader.place reader.bytes.now _ (search rules) c.read_field.ensures.value in
     record {
       value = value;
       message = subst (Accepted reader.place (drop reader.place reader.bytes.now)) (sym is) tt;
@@ -38,12 +38,12 @@ returns-in-err-event c =
 pub returns : goal.returns
 returns c =
     let reader = c.args.self.now in
-    let value = ap some (sym c.in-ok-event.was) ∙ decode_at reader.place reader.bytes.now _ (search rules) c.read-field.ensures.value in
+    let value = ap some (sym c.in_ok-event.was) ∙ decode_at reader.place reader.bytes.now _ (search rules) c.read_field.ensures.value in
     record {
       value = value;
-      message = subst (λ l. Message reader.place l c.in-ok-event.event) (to_end reader.place reader.bytes.now) c.in-ok-event.ensures.message;
+      message = subst (λ l. Message reader.place l c.in_ok-event.event) (to_end reader.place reader.bytes.now) c.in_ok-event.ensures.message;
       reads = λ event m. value ∙ message_reads reader.place reader.bytes.now event m;
       place = search rules;
-      falls = falls_by reader.place reader.bytes.now c.in-ok-event.event c.size.result (search rules) c.size.ensures;
+      falls = falls_by reader.place reader.bytes.now c.in_ok-event.event c.size.result (search rules) c.size.ensures;
       same = refl;
     }

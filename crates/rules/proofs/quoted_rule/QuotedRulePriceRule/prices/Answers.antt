@@ -9,10 +9,10 @@ pub returns : goal.returns
 returns c =
     let p = c.args.self.now.price in
     let d = c.args.self.now.offset.0 in
-    let q = question_told c.args.counted.now c.args.preceding.now c.in-ok-read-question.field-0.0 c.in-ok-read-question.field-0.1 c.read-question.result c.read-question.ensures c.in-ok-read-question.was in
+    let q = question_told c.args.counted.now c.args.preceding.now c.in_ok-read_question.field-0.0 c.in_ok-read_question.field-0.1 c.read_question.result c.read_question.ensures c.in_ok-read_question.was in
     record {
       value =
-          ap Ok c.quoted-prices.ensures
-          ∙ ap (λ (x : Price). Ok (p, record { 0 = p.0 +ℤ x.0 }, record { 0 = p.0 -ℤ x.0 })) c.default-price.ensures
+          ap Ok c.quoted_prices.ensures
+          ∙ ap (λ (x : Price). Ok (p, record { 0 = p.0 +ℤ x.0 }, record { 0 = p.0 -ℤ x.0 })) c.default_price.ensures
           ∙ ap (λ t. priced t (quoted p.0 d)) (sym q.0);
     }

@@ -7,10 +7,10 @@ use Rattle.rules.proofs.Questions.{total_told, asked_parts, as_shared}
 use Rattle.rules.specs.Truncated.{prefixes_truncated}
 use Rattle.rules.proofs.running_rule.RunningRuleSharingRule.share.Goals as goal
 
-pub write-differences-shared-requires : goal.write-differences-shared-requires
-write-differences-shared-requires c =
+pub write_differences-shared-requires : goal.write_differences-shared-requires
+write_differences-shared-requires c =
     let ws = c.args.weights.now in
-    let t = total_told ws (length c.args.into.now) c.in-ok-total.total c.total-weight.result c.total-weight.ensures c.in-ok-total.was in
+    let t = total_told ws (length c.args.into.now) c.in_ok-total.total c.total_weight.result c.total_weight.ensures c.in_ok-total.was in
     let p = asked_parts ws (length c.args.into.now) t.0 in
     record { same = p.1; whole = t.1; small = omega (arith, t.1, p.0.total) }
 
@@ -18,22 +18,22 @@ module _ (c : goal.After-into·1) where
   abbrev ws : List ℕ
   ws = c.args.weights.now
 
-  told : (is_sharing_question ws (length c.args.into.now) ≡ true) × (c.in-ok-total.total ≡ sum ws)
-  told = total_told ws (length c.args.into.now) c.in-ok-total.total c.total-weight.result c.total-weight.ensures c.in-ok-total.was
+  told : (is_sharing_question ws (length c.args.into.now) ≡ true) × (c.in_ok-total.total ≡ sum ws)
+  told = total_told ws (length c.args.into.now) c.in_ok-total.total c.total_weight.result c.total_weight.ensures c.in_ok-total.was
 
   same : to_z w64 (of_z w64 c.args.amount) ≡ c.args.amount
   same = to_z-of_z w64 c.args.amount c.ranges.amount
 
-  written : c.write-differences-shared.new.into ≡ running_shares c.args.amount ws
+  written : c.write_differences-shared.new.into ≡ running_shares c.args.amount ws
   written =
-      c.write-differences-shared.ensures.written
-      ∙ ap (λ a. differences (cut a c.in-ok-total.total) 0 ws) same
+      c.write_differences-shared.ensures.written
+      ∙ ap (λ a. differences (cut a c.in_ok-total.total) 0 ws) same
       ∙ ap (λ (t : ℕ). differences (cut c.args.amount t) 0 ws) told.1
 
-  shared_out : to_z w64 (of_z w64 c.write-differences-shared.result) ≡ cut c.args.amount (sum ws) (sum ws)
+  shared_out : to_z w64 (of_z w64 c.write_differences-shared.result) ≡ cut c.args.amount (sum ws) (sum ws)
   shared_out =
-      passed c.write-differences-shared.result (cut c.args.amount (sum ws) (sum ws)) c.write-differences-shared.type-inv
-      (c.write-differences-shared.ensures.last ∙ ap (λ a. cut a c.in-ok-total.total c.in-ok-total.total) same ∙ ap (λ (t : ℕ). cut c.args.amount t t) told.1)
+      passed c.write_differences-shared.result (cut c.args.amount (sum ws) (sum ws)) c.write_differences-shared.type_inv
+      (c.write_differences-shared.ensures.last ∙ ap (λ a. cut a c.in_ok-total.total c.in_ok-total.total) same ∙ ap (λ (t : ℕ). cut c.args.amount t t) told.1)
 
   fits : SFits w64 (running_remainder c.args.amount ws)
   fits = rest_fits c.args.amount (cut c.args.amount (sum ws) (sum ws)) c.ranges.amount (cut_toward c.args.amount (sum ws) (sum ws) (le_refl (sum ws)))
@@ -41,6 +41,6 @@ module _ (c : goal.After-into·1) where
 pub returns : goal.returns
 returns c =
     record {
-      value = as_shared (is_sharing_question (ws c) (length c.args.into.now)) (running_shares c.args.amount (ws c)) (running_remainder c.args.amount (ws c)) c.args.into.now c.write-differences-shared.new.into (to_z w64 (of_z w64 (to_z w64 (of_z w64 c.args.amount) -ℤ to_z w64 (of_z w64 c.write-differences-shared.result)))) (told c).0 (passed_difference (same c) (shared_out c) (fits c)) (written c);
+      value = as_shared (is_sharing_question (ws c) (length c.args.into.now)) (running_shares c.args.amount (ws c)) (running_remainder c.args.amount (ws c)) c.args.into.now c.write_differences-shared.new.into (to_z w64 (of_z w64 (to_z w64 (of_z w64 c.args.amount) -ℤ to_z w64 (of_z w64 c.write_differences-shared.result)))) (told c).0 (passed_difference (same c) (shared_out c) (fits c)) (written c);
       prefixes = λ remainder e some. subst (PrefixSumsTruncated c.args.amount (ws c)) (sym (written c)) (prefixes_truncated c.args.amount (ws c) some);
     }
