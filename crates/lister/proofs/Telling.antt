@@ -1,18 +1,16 @@
 -- The lines tell the bytes.
-use Rattle.std.proofs.Common.{◌≡◌, ℕ, zero, suc, ◌+◌, ◌-◌, ◌<◌, ◌≤◌, Bool, cond, leb, List, [], ◌∷◌, length, get_or, take, drop, IfOk, Some, None, Ok, Err, Option, Result, sym, refl, ap, ◌∙◌, subst, arith, length-drop, length-take, get_or-drop, drop-drop, le-leb}
+use Rattle.std.proofs.Common.{◌≡◌, ℕ, zero, suc, ◌+◌, ◌-◌, ◌<◌, ◌≤◌, cond, List, length, take, drop, IfOk, Some, None, Ok, Err, Option, Result, sym, refl, ap, ◌∙◌, subst, arith, length-drop, length-take, get_or-drop, drop-drop, le-leb}
 use Rattle.std.proofs.lemmas.List.{drop_all}
 use Rattle.messages.specs.declared.event.Event.{Event}
 use Rattle.messages.specs.declared.fault.ReaderFault.{ReaderFault}
 use Rattle.messages.specs.declared.fault.ReaderFault.TheVariants.{InputTooLong}
 use Rattle.messages.specs.Decode.{field, some, decode}
-use Rattle.messages.specs.Encode.{encode}
 use Rattle.messages.specs.Field.{size}
 use Rattle.messages.specs.Message.{Message}
 use Rattle.messages.proofs.Canonical.{field_message}
 use Rattle.messages.proofs.Numbers.{Bytes}
 use Rattle.messages.proofs.RoundTrip.{message_reads}
 use Rattle.messages.proofs.Steps.{Answer, encode_size, decode_end, decode_within}
-use Rattle.lister.specs.declared.line.Line.{Line}
 use Rattle.lister.specs.Lines.{answered, lines_from, lines_left, coming_at, first_stage, listed}
 use Rattle.lister.specs.Tells.{Tells}
 use Rattle.lister.proofs.Enough.{read_within, fewer, end_at}

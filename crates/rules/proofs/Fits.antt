@@ -1,5 +1,5 @@
 -- Parts of an amount that fits 64 bits fit 64 bits.
-use Rattle.std.proofs.Common.{◌≡◌, ℕ, zero, suc, ◌+◌, ◌-◌, ◌*◌, ◌<◌, ◌≤◌, List, length, get_or, ℤ, pos, negsuc, ◌+ℤ◌, ◌-ℤ◌, ◌*ℤ◌, neg_ℤ, nat_abs, ◌≤ℤ◌, ◌<ℤ◌, sum, sym, refl, ap, ◌∙◌, subst, arith, w64, SFits, to_z, of_z}
+use Rattle.std.proofs.Common.{◌≡◌, ℕ, zero, suc, ◌-◌, ◌<◌, ◌≤◌, List, get_or, ℤ, pos, negsuc, ◌+ℤ◌, ◌-ℤ◌, ◌*ℤ◌, nat_abs, ◌≤ℤ◌, sum, sym, refl, ap, ◌∙◌, subst, arith, w64, SFits, to_z, of_z}
 use lib.Signed.{mag}
 use Rattle.std.specs.List.{AllByRecursion as All}
 use Rattle.std.proofs.ByRecursion.{All-from_get_or}
@@ -8,7 +8,7 @@ use Rattle.std.proofs.lemmas.List.Sums.{get_or-le-sum_by}
 use Rattle.amounts.proofs.Products.{times_zero, times_le}
 use Rattle.rules.specs.SharingRules.{truncated, cut}
 use Rattle.rules.specs.Differences.{Cuts}
-use Rattle.rules.specs.Truncated.{truncated_dropped, rate_cuts, cut_cuts, cut_start, cut_whole, cut_split, rest_small}
+use Rattle.rules.specs.Truncated.{truncated_dropped, rate_cuts, cut_cuts, cut_whole, cut_split, rest_small}
 
 -- z lies between zero and the amount
 abbrev pub Toward : ℤ → ℤ → Type 0

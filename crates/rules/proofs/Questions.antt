@@ -1,7 +1,7 @@
 -- The questions that are put to every rule, told by what they ask.
-use Rattle.std.proofs.Common.{◌≡◌, ℕ, ◌*◌, ◌<◌, ◌≤◌, Bool, true, false, cond, ◌&&◌, eqb, leb, List, [], ◌∷◌, length, get_or, ℤ, Ok, Err, sum, Result, sym, refl, ap, ◌∙◌, subst, inl, inr, arith}
+use Rattle.std.proofs.Common.{◌≡◌, ℕ, ◌≤◌, Bool, true, false, cond, eqb, leb, List, length, ℤ, Ok, Err, sum, Result, sym, refl, ap, ◌∙◌, subst, inl, inr, arith}
 use Rattle.std.specs.List.{AllByRecursion as All, list_all}
-use Rattle.std.proofs.lemmas.Bool.{and_parts, and_from, and_left, and_right, le-leb, leb-true, eq-eqb, eqb-true, cases_Bool, cond-true, cond-false}
+use Rattle.std.proofs.lemmas.Bool.{and_parts, and_from, and_left, and_right, leb-true, eq-eqb, eqb-true, cases_Bool, cond-true, cond-false}
 use Rattle.std.proofs.ByRecursion.{All-weaker, sum_by_le}
 use Rattle.rules.specs.Sharing.{is_weight, is_weight_count, are_weights, is_sharing_question, Shared, shared}
 use Rattle.rules.specs.declared.fault.RuleFault.{RuleFault}

@@ -1,5 +1,5 @@
 -- A quotient with its fraction dropped: what it is on both sides of zero, how it grows, and how it is computed by quotient and rest.
-use Rattle.std.specs.Prelude.{◌≡◌, ℕ, zero, suc, ◌+◌, ◌-◌, ◌*◌, ◌/◌, ◌%◌, ◌<◌, ◌≤◌, cond, List, take, ℤ, pos, negsuc, ◌+ℤ◌, ◌-ℤ◌, ◌*ℤ◌, neg_ℤ, ◌≤ℤ◌, ◌<ℤ◌, Some, None, sum, int_div, unsigned_abs, refl}
+use Rattle.std.specs.Prelude.{◌≡◌, ℕ, zero, suc, ◌+◌, ◌-◌, ◌*◌, ◌/◌, ◌%◌, ◌<◌, ◌≤◌, cond, List, take, ℤ, pos, negsuc, ◌+ℤ◌, ◌-ℤ◌, ◌*ℤ◌, neg_ℤ, ◌≤ℤ◌, Some, None, sum, int_div, unsigned_abs, refl}
 use Rattle.std.proofs.Common.{sym, ap, subst, ◌∙◌, arith, div-lt_iff_lt-mul, suc-mul, add-mul, mul_assoc, mul_comm, mul-le-mul_left, mul-div_cancel, div-add-mod'}
 use Rattle.std.proofs.Math.Nat.{zero-div, add-mul-div_right}
 use Rattle.std.specs.Option.{unwrap_or}

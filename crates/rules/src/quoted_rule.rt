@@ -3,7 +3,7 @@ ghost use Rattle.std.specs.Prelude.{◌≡◌, ◌&&◌, pos, ◌+ℤ◌, ◌-�
 ghost use Rattle.amounts.specs.Limits.{is_in_limit, is_default};
 ghost use Rattle.rules.specs.Prices.{InPriceLimit, InDefaultLimit, is_price_question, priced};
 ghost use Rattle.rules.specs.PriceRules.{quoted, check_answer};
-ghost use Rattle.std.proofs.Common.{rules, arith};
+ghost use Rattle.std.proofs.Common.{rules};
 
 use crate::fault::RuleFault;
 use crate::price_rule::{CountedAction, PriceRule};
@@ -55,15 +55,15 @@ impl PriceRule for QuotedRule {
 
     ghost prices = { λ rule _ _. quoted rule.price.0 rule.offset.0 };
 
-    ghost default_within_limit = { first_line_of (Prim.search rules, Prim.grind (arith, Self.row.coded.inj)) };
+    ghost default_within_limit = { Prim.search rules };
 
-    ghost average_within_limit = { first_line_of (Prim.search rules, Prim.grind (arith, Self.row.coded.inj)) };
+    ghost average_within_limit = { Prim.search rules };
 
-    ghost average_from_sell_to_buy = { first_line_of (Prim.search rules, Prim.grind (arith, Self.row.coded.inj)) };
+    ghost average_from_sell_to_buy = { Prim.search rules };
 
-    ghost buy_within_limit = { first_line_of (Prim.search rules, Prim.grind (arith, Self.row.coded.inj)) };
+    ghost buy_within_limit = { Prim.search rules };
 
-    ghost sell_within_limit = { first_line_of (Prim.search rules, Prim.grind (arith, Self.row.coded.inj)) };
+    ghost sell_within_limit = { Prim.search rules };
 
     fn default_price(&self) -> Price {
         self.offset

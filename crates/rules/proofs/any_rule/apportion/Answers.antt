@@ -1,10 +1,10 @@
-use Rattle.std.proofs.Common.{◌≡◌, ℕ, ◌<◌, ◌≤◌, Bool, true, cond, eqb, List, length, ℤ, pos, negsuc, nat_abs, Ok, sum, sym, ap, ◌∙◌, subst, arith, w64, SFits, to_z, of_z, rules}
+use Rattle.std.proofs.Common.{◌≡◌, ℕ, ◌<◌, Bool, true, eqb, List, length, ℤ, pos, negsuc, nat_abs, Ok, sum, sym, ap, ◌∙◌, subst, arith, w64, SFits, to_z, of_z, rules}
 use Rattle.std.specs.List.{AllByRecursion as All}
 use Rattle.std.proofs.lemmas.Int.{ints, to_z-of_z}
 use Rattle.std.proofs.lemmas.Bool.{and_parts}
 use Rattle.amounts.proofs.Within.{between_yes}
 use Rattle.rules.specs.AnyRule.{Apportionment, apportioned, unshared_by, SharedByTheLaws}
-use Rattle.rules.specs.Sharing.{Shareable, Shared, shared, is_sharing_question, are_weights}
+use Rattle.rules.specs.Sharing.{Shareable, shared, is_sharing_question, are_weights}
 use Rattle.rules.specs.declared.any_rule.Unshared.{Unshared}
 use Rattle.rules.proofs.Questions.{shared_told, total_told, weights_told, never_refused}
 use Rattle.rules.proofs.any_rule.apportion.Goals as goal
@@ -30,7 +30,7 @@ returns-in_err-total g c =
     absurd (never_refused ws (length c.share.new.into) c.in_err-total.field-0.0 c.total_weight.result c.total_weight.ensures c.in_err-total.was yes)
 
 pub unshared_by-requires : goal.unshared_by-requires
-unshared_by-requires g c κs some =
+unshared_by-requires g c some =
     let rule = c.args.rule.now in
     let amount = c.args.amount in
     let ws = c.args.weights.now in

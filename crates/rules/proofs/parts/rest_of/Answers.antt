@@ -1,4 +1,4 @@
-use Rattle.std.proofs.Common.{◌≡◌, ℤ, pos, ◌-ℤ◌, ◌*ℤ◌, sym, ap, ◌∙◌, subst, le_refl, w64, SFits, to_z, of_z}
+use Rattle.std.proofs.Common.{◌≡◌, pos, ◌-ℤ◌, ◌*ℤ◌, sym, ap, ◌∙◌, subst, le_refl, w64, SFits, to_z, of_z}
 use Rattle.std.proofs.lemmas.Int.{to_z-of_z}
 use Rattle.rules.proofs.Fits.{Toward, part_fits, rest_fits, rate_toward, passed, passed_difference, fits_as}
 use Rattle.rules.proofs.parts.rest_of.Goals as goal

@@ -1,4 +1,4 @@
-use Rattle.std.proofs.Common.{◌≡◌, ◌+ℤ◌, ◌-ℤ◌, Ok, sym, ap, ◌∙◌}
+use Rattle.std.proofs.Common.{◌+ℤ◌, ◌-ℤ◌, Ok, sym, ap, ◌∙◌}
 use Rattle.amounts.specs.declared.amount.Price.{Price}
 use Rattle.rules.specs.Prices.{priced}
 use Rattle.rules.specs.PriceRules.{quoted}

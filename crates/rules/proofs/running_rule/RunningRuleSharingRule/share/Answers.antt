@@ -1,4 +1,4 @@
-use Rattle.std.proofs.Common.{◌≡◌, ℕ, ◌<◌, ◌≤◌, true, List, length, take, ℤ, pos, ◌-ℤ◌, ◌*ℤ◌, sum, sym, ap, ◌∙◌, subst, le_refl, arith, w64, SFits, to_z, of_z}
+use Rattle.std.proofs.Common.{◌≡◌, ℕ, true, List, length, ◌-ℤ◌, sum, sym, ap, ◌∙◌, subst, le_refl, arith, w64, SFits, to_z, of_z}
 use Rattle.std.proofs.lemmas.Int.{to_z-of_z}
 use Rattle.rules.specs.Sharing.{is_sharing_question}
 use Rattle.rules.specs.SharingRules.{cut, differences, running_shares, running_remainder, PrefixSumsTruncated}
@@ -14,7 +14,7 @@ write_differences-shared-requires c =
     let p = asked_parts ws (length c.args.into.now) t.0 in
     record { same = p.1; whole = t.1; small = omega (arith, t.1, p.0.total) }
 
-module _ (c : goal.After-into·1) where
+module _ (c : goal.After-into-1) where
   abbrev ws : List ℕ
   ws = c.args.weights.now
 

@@ -1,4 +1,4 @@
-use Rattle.std.proofs.Common.{◌≡◌, ℕ, true, List, map, length, ℤ, pos, ◌-ℤ◌, ◌*ℤ◌, sum, sym, ap, ◌∙◌, subst, w64, SFits, to_z, of_z}
+use Rattle.std.proofs.Common.{◌≡◌, ℕ, true, List, map, length, pos, ◌-ℤ◌, ◌*ℤ◌, sum, sym, ap, ◌∙◌, subst, w64, SFits, to_z, of_z}
 use Rattle.std.specs.List.{AllByRecursion as All}
 use Rattle.rules.specs.Sharing.{is_sharing_question}
 use Rattle.rules.specs.SharingRules.{truncated, rate, unit_shares, unit_remainder}
