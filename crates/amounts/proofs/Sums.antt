@@ -1,6 +1,6 @@
 -- Sums of whole numbers over a list.
 use Rattle.std.proofs.Common.{◌≡◌, ℕ, ◌+◌, ◌*◌, ◌<◌, List, [], ◌∷◌, ◌++◌, map, length, get_or, take, ℤ, pos, ◌+ℤ◌, ◌≤ℤ◌, ap, ◌∙◌, suc-mul, arith}
-use Rattle.std.specs.List.{AllByRecursion as All}
+use Rattle.std.specs.List.{AllByRecursion}
 use Rattle.std.proofs.lemmas.List.{map_more}
 use Rattle.std.proofs.lemmas.Int.{ints}
 use Rattle.amounts.specs.Sums.{sum_z}
@@ -14,7 +14,7 @@ pub sum_more : {X : Type 0} (f : X → ℤ) (xs : List X) (i : ℕ) (d : X) → 
 sum_more f xs i d l = ap sum_z (map_more f xs i d l) ∙ sum_push (map f (take i xs)) (f (get_or xs i d))
 
 -- from 0 to so many times the largest
-pub sum_within : {X : Type 0} (f : X → ℤ) (most : ℕ) (xs : List X) → All (λ x. (pos 0 ≤ℤ f x) × (f x ≤ℤ pos most)) xs → (pos 0 ≤ℤ sum_z (map f xs)) × (sum_z (map f xs) ≤ℤ pos (length xs * most))
+pub sum_within : {X : Type 0} (f : X → ℤ) (most : ℕ) (xs : List X) → AllByRecursion (λ x. (pos 0 ≤ℤ f x) × (f x ≤ℤ pos most)) xs → (pos 0 ≤ℤ sum_z (map f xs)) × (sum_z (map f xs) ≤ℤ pos (length xs * most))
 sum_within f most [] a = (omega (arith, ints), omega (arith, ints))
 sum_within f most (x ∷ xs) a =
     let h = sum_within f most xs a.1 in

@@ -1,6 +1,6 @@
 -- The questions that are put to every rule, told by what they ask.
 use Rattle.std.proofs.Common.{◌≡◌, ℕ, ◌≤◌, Bool, true, false, cond, eqb, leb, List, length, ℤ, Ok, Err, sum, Result, sym, refl, ap, ◌∙◌, subst, inl, inr, arith}
-use Rattle.std.specs.List.{AllByRecursion as All, list_all}
+use Rattle.std.specs.List.{AllByRecursion, list_all}
 use Rattle.std.proofs.lemmas.Bool.{and_parts, and_from, and_left, and_right, leb-true, eq-eqb, eqb-true, cases_Bool, cond-true, cond-false}
 use Rattle.std.proofs.ByRecursion.{All-weaker, sum_by_le}
 use Rattle.rules.specs.Sharing.{is_weight, is_weight_count, are_weights, is_sharing_question, Shared, shared}
@@ -8,7 +8,7 @@ use Rattle.rules.specs.declared.fault.RuleFault.{RuleFault}
 use Rattle.rules.specs.declared.fault.RuleFault.TheVariants.{QuestionOutOfLimit}
 use Rattle.rules.specs.Passes.{each_passes, pass_all}
 
-pub sharing_asked : (ws : List ℕ) (places : ℕ) → is_weight_count (length ws) ≡ true → All (λ w. is_weight w ≡ true) ws → places ≡ length ws → is_sharing_question ws places ≡ true
+pub sharing_asked : (ws : List ℕ) (places : ℕ) → is_weight_count (length ws) ≡ true → AllByRecursion (λ w. is_weight w ≡ true) ws → places ≡ length ws → is_sharing_question ws places ≡ true
 sharing_asked ws places count each same =
     and_from (are_weights ws) (eqb places (length ws))
     (and_from (is_weight_count (length ws)) (list_all is_weight ws) count (pass_all is_weight ws each))
@@ -22,7 +22,7 @@ sharing_refused ws places e =
 pub record Weights (ws : List ℕ) : Type 0 where
   pub some : 1 ≤ length ws
   pub few : length ws ≤ 32
-  pub each : All (λ w. is_weight w ≡ true) ws
+  pub each : AllByRecursion (λ w. is_weight w ≡ true) ws
   pub total : sum ws ≤ 64000000
 
 pub weights_told : (ws : List ℕ) → are_weights ws ≡ true → Weights ws

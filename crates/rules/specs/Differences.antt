@@ -1,7 +1,7 @@
 -- What both sharing rules have from being differences of one function of the weights so far.
 use Rattle.std.specs.Prelude.{◌≡◌, ℕ, zero, suc, ◌+◌, ◌<◌, ◌≤◌, List, [], ◌∷◌, ◌++◌, map, length, take, ℤ, pos, ◌+ℤ◌, ◌-ℤ◌, ◌*ℤ◌, ◌≤ℤ◌, sum, slice_index, slice_index_or, slice_set, refl}
 use Rattle.std.proofs.Common.{sym, ap, ◌∙◌, arith, add_assoc, add-zero, zero-add}
-use Rattle.std.specs.List.{AllByRecursion as All}
+use Rattle.std.specs.List.{AllByRecursion}
 use Rattle.std.proofs.lemmas.List.{take_more, take_more_set}
 use Rattle.std.proofs.lemmas.Int.{ints}
 use Rattle.std.proofs.lemmas.List.Sums.{sum_by-cons}
@@ -40,19 +40,19 @@ Rising f = (p q : ℕ) → p ≤ q → f p ≤ℤ f q
 abbrev pub Falling : (ℕ → ℤ) → Type 0
 Falling f = (p q : ℕ) → p ≤ q → f q ≤ℤ f p
 
-pub rising_differences : (f : ℕ → ℤ) → Rising f → (p : ℕ) (ws : List ℕ) → All (λ x. pos 0 ≤ℤ x) (differences f p ws)
+pub rising_differences : (f : ℕ → ℤ) → Rising f → (p : ℕ) (ws : List ℕ) → AllByRecursion (λ x. pos 0 ≤ℤ x) (differences f p ws)
 rising_differences f up p [] = tt
 rising_differences f up p (w ∷ ws) =
     let h = up p (p + w) (omega arith) in
     (omega (arith, ints, h), rising_differences f up (p + w) ws)
 
-pub falling_differences : (f : ℕ → ℤ) → Falling f → (p : ℕ) (ws : List ℕ) → All (λ x. x ≤ℤ pos 0) (differences f p ws)
+pub falling_differences : (f : ℕ → ℤ) → Falling f → (p : ℕ) (ws : List ℕ) → AllByRecursion (λ x. x ≤ℤ pos 0) (differences f p ws)
 falling_differences f down p [] = tt
 falling_differences f down p (w ∷ ws) =
     let h = down p (p + w) (omega arith) in
     (omega (arith, ints, h), falling_differences f down (p + w) ws)
 
-pub all_zero : (xs : List ℤ) → All (λ x. pos 0 ≤ℤ x) xs → All (λ x. x ≤ℤ pos 0) xs → All (λ x. x ≡ pos 0) xs
+pub all_zero : (xs : List ℤ) → AllByRecursion (λ x. pos 0 ≤ℤ x) xs → AllByRecursion (λ x. x ≤ℤ pos 0) xs → AllByRecursion (λ x. x ≡ pos 0) xs
 all_zero [] a b = tt
 all_zero (x ∷ xs) a b = let h = a.0 in let k = b.0 in (omega (arith, ints, h, k), all_zero xs a.1 b.1)
 
@@ -75,11 +75,11 @@ adds_up amount f c ws =
     let e : f (0 + sum ws) ≡ f (sum ws) = ap f (zero-add (sum ws)) in
     omega (arith, ints, sum_differences f 0 ws, c.start)
 
-pub none_across_zero : (amount : ℤ) (f : ℕ → ℤ) → Cuts amount f → (ws : List ℕ) → (pos 0 ≤ℤ amount → All (λ x. pos 0 ≤ℤ x) (differences f 0 ws)) × (amount ≤ℤ pos 0 → All (λ x. x ≤ℤ pos 0) (differences f 0 ws))
+pub none_across_zero : (amount : ℤ) (f : ℕ → ℤ) → Cuts amount f → (ws : List ℕ) → (pos 0 ≤ℤ amount → AllByRecursion (λ x. pos 0 ≤ℤ x) (differences f 0 ws)) × (amount ≤ℤ pos 0 → AllByRecursion (λ x. x ≤ℤ pos 0) (differences f 0 ws))
 none_across_zero amount f c ws =
     ((λ h. rising_differences f (c.up h) 0 ws), (λ h. falling_differences f (c.down h) 0 ws))
 
-pub none_of_zero : (f : ℕ → ℤ) → Cuts (pos 0) f → (ws : List ℕ) → All (λ x. x ≡ pos 0) (differences f 0 ws)
+pub none_of_zero : (f : ℕ → ℤ) → Cuts (pos 0) f → (ws : List ℕ) → AllByRecursion (λ x. x ≡ pos 0) (differences f 0 ws)
 none_of_zero f c ws =
     let n = none_across_zero (pos 0) f c ws in
     all_zero (differences f 0 ws) (n.0 (omega (arith, ints))) (n.1 (omega (arith, ints)))

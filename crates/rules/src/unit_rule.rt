@@ -2,7 +2,7 @@
 ghost use Rattle.std.specs.Prelude.{◌≡◌, ◌<◌, map, length, ℤ, pos, ◌*ℤ◌, Ok, sum, FitsSigned};
 ghost use Rattle.std.proofs.Common.{sym, subst, arith, rules};
 ghost use Rattle.std.specs.Int.{w64};
-ghost use Rattle.std.specs.List.{AllByRecursion as All};
+ghost use Rattle.std.specs.List.{AllByRecursion};
 ghost use Rattle.rules.specs.Sharing.{Shared, shared, is_sharing_question};
 ghost use Rattle.rules.specs.SharingRules.{unit_shares, unit_remainder, unit_margin, InProportion};
 ghost use Rattle.std.proofs.lemmas.List.{length-map};
@@ -33,7 +33,7 @@ impl SharingRule for UnitRule {
 
     ghost weight_zero_has_share_zero = { λ rule amount ws h k l e. rw (as_differences amount ws) (zero_difference (λ p. SharingRules.rate amount ws *ℤ pos p) 0 ws k l e) };
 
-    ghost amount_zero_has_shares_zero = { λ rule ws h. subst (All (λ x. x ≡ pos 0)) (sym (as_differences (pos 0) ws)) (none_of_zero (λ p. SharingRules.rate (pos 0) ws *ℤ pos p) (rate_cuts (pos 0) (sum ws)) ws) };
+    ghost amount_zero_has_shares_zero = { λ rule ws h. subst (AllByRecursion (λ x. x ≡ pos 0)) (sym (as_differences (pos 0) ws)) (none_of_zero (λ p. SharingRules.rate (pos 0) ws *ℤ pos p) (rate_cuts (pos 0) (sum ws)) ws) };
 
     ghost no_share_across_zero = { λ rule amount ws h. rw (as_differences amount ws) (none_across_zero amount (λ p. SharingRules.rate amount ws *ℤ pos p) (rate_cuts amount (sum ws)) ws) };
 
@@ -57,7 +57,7 @@ impl SharingRule for UnitRule {
 // Writes the rate times each weight.
 fn write_multiples(rate: i64, weights: &[u32], into: &mut [i64])
     requires same { length into.old ≡ length weights.now }
-    requires fit { All (λ weight. FitsSigned w64 (rate *ℤ pos weight)) weights.now }
+    requires fit { AllByRecursion (λ weight. FitsSigned w64 (rate *ℤ pos weight)) weights.now }
     ensures { into.new ≡ map (λ weight. rate *ℤ pos weight) weights.now }
 {
     for (i, weight) in weights.iter().enumerate() {

@@ -1,5 +1,5 @@
 use Rattle.std.proofs.Common.{◌≡◌, true, get_or, take, Ok, Err, sum, sym, ap, ◌∙◌, arith}
-use Rattle.std.specs.List.{AllByRecursion as All}
+use Rattle.std.specs.List.{AllByRecursion}
 use Rattle.std.proofs.ByRecursion.{All-more}
 use Rattle.std.proofs.lemmas.List.{take_all}
 use Rattle.std.proofs.lemmas.List.Sums.{sum_by_more}
@@ -32,7 +32,7 @@ returns c =
     let ws = c.args.weights.now in
     let i = c.loop-weight.weight-index in
     let whole : take i ws ≡ ws = take_all i ws c.loop-weight-test.false in
-    let each : All (λ w. is_weight w ≡ true) ws = rw whole at c.loop-weight.invariant.0 in
+    let each : AllByRecursion (λ w. is_weight w ≡ true) ws = rw whole at c.loop-weight.invariant.0 in
     let total : c.loop-weight.total ≡ sum ws = rw whole at c.loop-weight.invariant.1 in
     ap Ok total
     ∙ sym (cond-true (is_sharing_question ws c.args.places) (Ok (sum ws)) (Err QuestionOutOfLimit)
