@@ -2,6 +2,7 @@
 #![tactic(auto)]
 
 pub mod amount;
+pub mod fault;
 pub mod layer;
 pub mod limits;
 pub mod rounding;

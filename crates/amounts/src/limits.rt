@@ -21,21 +21,21 @@ impl Kwh {
     pub fn is_figure(self) -> bool
         ensures { result ≡ is_figure self.0 }
     {
-        self.0 >= 0 && self.0 <= QUANTITY_LIMIT.0
+        (Kwh(0)..=QUANTITY_LIMIT).contains(&self)
     }
 
     // Whether this can be the quantity of a trade or an action.
     pub fn is_quantity(self) -> bool
         ensures { result ≡ is_quantity self.0 }
     {
-        self.0 >= 1 && self.0 <= QUANTITY_LIMIT.0
+        (Kwh(1)..=QUANTITY_LIMIT).contains(&self)
     }
 
     // Whether this can be the quantity of a reconciliation.
     pub fn is_reconciliation(self) -> bool
         ensures { result ≡ is_reconciliation self.0 }
     {
-        self.0 != 0 && self.0 >= -QUANTITY_LIMIT.0 && self.0 <= QUANTITY_LIMIT.0
+        self != Kwh(0) && (Kwh(-QUANTITY_LIMIT.0)..=QUANTITY_LIMIT).contains(&self)
     }
 }
 
@@ -44,14 +44,14 @@ impl Price {
     pub fn is_in_limit(self) -> bool
         ensures { result ≡ is_in_limit self.0 }
     {
-        self.0 >= 0 && self.0 <= PRICE_LIMIT.0
+        (Price(0)..=PRICE_LIMIT).contains(&self)
     }
 
     // Whether this can be a default price.
     pub fn is_default(self) -> bool
         ensures { result ≡ is_default self.0 }
     {
-        self.0 >= 0 && self.0 <= DEFAULT_PRICE_LIMIT.0
+        (Price(0)..=DEFAULT_PRICE_LIMIT).contains(&self)
     }
 }
 
@@ -60,6 +60,6 @@ impl Ticks {
     pub fn is_balance(self) -> bool
         ensures { result ≡ is_balance self.0 }
     {
-        self.0 >= -BALANCE_LIMIT.0 && self.0 <= BALANCE_LIMIT.0
+        (Ticks(-BALANCE_LIMIT.0)..=BALANCE_LIMIT).contains(&self)
     }
 }

@@ -1,4 +1,5 @@
-// Quantities and prices in the widths in which messages carry them: each holds exactly the numbers of its four bytes.
+// Quantities and prices in the widths in which messages carry them: each holds exactly the numbers of its four bytes, and
+// converts to the quantity or price to compute with.
 ghost use Rattle.std.specs.Prelude.{◌≡◌, pos};
 
 use crate::amount::{Kwh, Price};
@@ -15,30 +16,26 @@ pub struct WireKwhChange(pub i32);
 #[derive(Clone, Copy, Debug, PartialEq, Eq)]
 pub struct WirePrice(pub u32);
 
-impl WireKwh {
-    // The same quantity, to compute with.
-    pub fn kwh(self) -> Kwh
-        ensures { result.0 ≡ pos self.0 }
-    {
-        Kwh(i64::from(self.0))
+impl From<WireKwh> for Kwh {
+    ghost from_gives = { λ wire kwh. kwh.0 ≡ pos wire.0 };
+
+    fn from(wire: WireKwh) -> Kwh {
+        Kwh(i64::from(wire.0))
     }
 }
 
-impl WireKwhChange {
-    // The same quantity, to compute with.
-    pub fn kwh(self) -> Kwh
-        ensures { result.0 ≡ self.0 }
-    {
-        let WireKwhChange(quantity) = self;
-        Kwh(i64::from(quantity))
+impl From<WireKwhChange> for Kwh {
+    ghost from_gives = { λ change kwh. kwh.0 ≡ change.0 };
+
+    fn from(change: WireKwhChange) -> Kwh {
+        Kwh(i64::from(change.0))
     }
 }
 
-impl WirePrice {
-    // The same price, to compute with.
-    pub fn price(self) -> Price
-        ensures { result.0 ≡ pos self.0 }
-    {
-        Price(i64::from(self.0))
+impl From<WirePrice> for Price {
+    ghost from_gives = { λ wire price. price.0 ≡ pos wire.0 };
+
+    fn from(wire: WirePrice) -> Price {
+        Price(i64::from(wire.0))
     }
 }

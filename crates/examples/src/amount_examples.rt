@@ -1,4 +1,4 @@
-use amounts::amount::{Kwh, Price, Ticks};
+use amounts::amount::{Amount, Kwh, Price, Ticks};
 use amounts::rounding::{half_up, toward_zero};
 
 // Each limit, just inside and just outside.
