@@ -1,4 +1,3 @@
-pub mod HalfUp
 pub mod Products
 pub mod Roundings
 pub mod Sums

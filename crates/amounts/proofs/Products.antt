@@ -1,6 +1,6 @@
 -- Products of a whole number and a natural number: they add up on either side, and keep the order.
-use Rattle.std.proofs.Common.{◌≡◌, ℕ, zero, suc, ◌+◌, ℤ, pos, ◌+ℤ◌, ◌*ℤ◌, neg_ℤ, ◌≤ℤ◌, ap, ◌∙◌, add-zero, add-suc, arith}
-use lib.IntN.{*ℤ_comm, *ℤ-zero, suc_ℤ-*ℤ}
+use Rattle.std.proofs.Common.{◌≡◌, ℕ, zero, suc, ◌+◌, ℤ, pos, ◌+ℤ◌, ◌*ℤ◌, neg_ℤ, ◌≤ℤ◌, ap, ◌∙◌, arith}
+use Rattle.std.proofs.Math.IntN.{*ℤ_comm, *ℤ-zero, suc_ℤ-*ℤ}
 use Rattle.std.proofs.lemmas.Int.{ints}
 
 pub times_suc : (z : ℤ) (d : ℕ) → z *ℤ pos (suc d) ≡ z *ℤ pos d +ℤ z
@@ -17,14 +17,7 @@ add_times a b (suc d) =
 
 -- a (d + e) = a d + a e
 pub times_add : (a : ℤ) (d e : ℕ) → a *ℤ pos (d + e) ≡ a *ℤ pos d +ℤ a *ℤ pos e
-times_add a d zero =
-    let n : d + zero ≡ d = add-zero d in
-    let m : a *ℤ pos (d + zero) ≡ a *ℤ pos d = ap (λ (k : ℕ). a *ℤ pos k) n in
-    omega (arith, ints, times_zero a)
-times_add a d (suc e) =
-    let n : d + suc e ≡ suc (d + e) = add-suc d e in
-    let m : a *ℤ pos (d + suc e) ≡ a *ℤ pos (suc (d + e)) = ap (λ (k : ℕ). a *ℤ pos k) n in
-    omega (arith, ints, times_add a d e, times_suc a (d + e), times_suc a e)
+times_add a d e = omega (arith, ints)
 
 pub times_le : (a b : ℤ) (d : ℕ) → a ≤ℤ b → (a *ℤ pos d) ≤ℤ (b *ℤ pos d)
 times_le a b zero h = omega (arith, ints, times_zero a, times_zero b)
