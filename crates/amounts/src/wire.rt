@@ -1,8 +1,10 @@
 // Quantities and prices in the widths in which messages carry them: each holds exactly the numbers of its four bytes, and
 // converts to the quantity or price to compute with.
-ghost use Rattle.std.specs.Prelude.{◌≡◌, pos};
+ghost use Rattle.std.specs.Prelude.{◌≡◌, pos, Some, decimal};
+ghost use Rattle.std.specs.Fmt.{signed_decimal};
 
 use crate::amount::{Kwh, Price};
+use std::fmt;
 
 // A quantity in kWh, from 0 up.
 #[derive(Clone, Copy, Debug, PartialEq, Eq)]
@@ -37,5 +39,32 @@ impl From<WirePrice> for Price {
 
     fn from(wire: WirePrice) -> Price {
         Price(i64::from(wire.0))
+    }
+}
+
+impl fmt::Display for WireKwh {
+    ghost output = { λ kwh. Some (decimal kwh.0) };
+
+    fn fmt<W: fmt::Write>(&self, f: &mut fmt::Formatter<W>) -> fmt::Result {
+        let WireKwh(kwh) = self;
+        write!(f, "{kwh}")
+    }
+}
+
+impl fmt::Display for WireKwhChange {
+    ghost output = { λ change. Some (signed_decimal change.0) };
+
+    fn fmt<W: fmt::Write>(&self, f: &mut fmt::Formatter<W>) -> fmt::Result {
+        let WireKwhChange(change) = self;
+        write!(f, "{change}")
+    }
+}
+
+impl fmt::Display for WirePrice {
+    ghost output = { λ price. Some (decimal price.0) };
+
+    fn fmt<W: fmt::Write>(&self, f: &mut fmt::Formatter<W>) -> fmt::Result {
+        let WirePrice(price) = self;
+        write!(f, "{price}")
     }
 }

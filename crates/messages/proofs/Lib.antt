@@ -1,5 +1,5 @@
 pub mod Numbers
-pub mod Steps
+pub mod Fields
 pub mod Canonical
 pub mod RoundTrip
 pub mod Written

@@ -1,22 +1,42 @@
--- An event's field: how long it is, and where it may stand.
-use Rattle.std.specs.Prelude.{ℕ, Bool, not, ◌==◌}
+-- An event's field: its tag, how long it is, and where it may stand.
+use Rattle.std.specs.Prelude.{ℕ, ◌+◌, Bool, true, false, Ok, Err, Result, ◌==◌, if◌then◌else◌}
+use Rattle.messages.specs.declared.event.ActionKind.{ActionKind}
+use Rattle.messages.specs.declared.event.ActionKind.TheVariants.{Buy, Sell}
 use Rattle.messages.specs.declared.event.Event.{Event}
 use Rattle.messages.specs.declared.event.Event.TheVariants.{Figures, Trade, Action, Close, Reconcile, Opening}
+use Rattle.messages.specs.declared.fault.ReaderFault.{ReaderFault}
+use Rattle.messages.specs.declared.fault.ReaderFault.TheVariants.{MarkUnknown}
+use Rattle.messages.specs.declared.tag.Tag.{Tag}
+use Rattle.messages.specs.declared.tag.Tag.TheVariants.{Figures as FiguresTag, Trade as TradeTag, Action as ActionTag, Close as CloseTag, Reconcile as ReconcileTag, Opening as OpeningTag}
+use Rattle.messages.specs.Tag.{value_length, may_stand}
+
+abbrev pub tag : Event → Tag
+tag (Figures user input output nomination) = FiguresTag
+tag (Trade seller buyer quantity) = TradeTag
+tag (Action user kind locational quantity price) = ActionTag
+tag Close = CloseTag
+tag (Reconcile user day quantity) = ReconcileTag
+tag (Opening users default_price averages) = OpeningTag
 
 -- how many bytes the field has, its tag and its length among them
 abbrev pub size : Event → ℕ
-size (Figures user input output nomination) = 16
-size (Trade seller buyer quantity) = 9
-size (Action user kind locational quantity price) = 14
-size Close = 3
-size (Reconcile user day quantity) = 10
-size (Opening users d a1 a2 a3 a4 a5 a6 a7) = 36
+size event = 3 + value_length (tag event)
 
--- an opening stands at place 0, any other event elsewhere
+-- whether the event may stand at a place
 abbrev pub stands_at : Event → ℕ → Bool
-stands_at (Figures user input output nomination) place = not (place == 0)
-stands_at (Trade seller buyer quantity) place = not (place == 0)
-stands_at (Action user kind locational quantity price) place = not (place == 0)
-stands_at Close place = not (place == 0)
-stands_at (Reconcile user day quantity) place = not (place == 0)
-stands_at (Opening users d a1 a2 a3 a4 a5 a6 a7) place = place == 0
+stands_at event place = may_stand (tag event) place
+
+-- the marks of an action, 0 or 1 each
+abbrev pub kind_byte : ActionKind → ℕ
+kind_byte Buy = 0
+kind_byte Sell = 1
+
+abbrev pub flag_byte : Bool → ℕ
+flag_byte false = 0
+flag_byte true = 1
+
+abbrev pub kind_of : ℕ → Result ActionKind ReaderFault
+kind_of mark = if mark == 0 then Ok Buy else (if mark == 1 then Ok Sell else Err MarkUnknown)
+
+abbrev pub flag_of : ℕ → Result Bool ReaderFault
+flag_of mark = if mark == 0 then Ok false else (if mark == 1 then Ok true else Err MarkUnknown)

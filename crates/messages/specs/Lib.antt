@@ -1,8 +1,11 @@
 pub mod Faults
+pub mod Steps
+pub mod Tag
 pub mod Field
 pub mod Decode
 pub mod Encode
 pub mod Message
+pub mod Text
 pub mod Write
 pub mod Left
 pub mod Input

@@ -1,5 +1,5 @@
 -- What a writer answers, and what it leaves in the buffer.
-use Rattle.std.specs.Prelude.{ℕ, ◌+◌, cond, List, ◌++◌, length, take, drop, Ok, Err, Result, nat_le}
+use Rattle.std.specs.Prelude.{ℕ, ◌+◌, List, ◌++◌, length, take, drop, Ok, Err, Result, nat_le, if◌then◌else◌}
 use Rattle.messages.specs.declared.event.Event.{Event}
 use Rattle.messages.specs.declared.fault.ReaderFault.{ReaderFault}
 use Rattle.messages.specs.declared.fault.ReaderFault.TheVariants.{TagUnknown, NoSpace}
@@ -11,7 +11,7 @@ put buffer place field = take place buffer ++ (field ++ drop (place + length fie
 
 -- the place after so many bytes, where they fit
 abbrev pub fitted : ℕ → ℕ → ℕ → Result ℕ ReaderFault
-fitted long room place = cond (nat_le (place + long) room) (Ok (place + long)) (Err NoSpace)
+fitted long room place = if nat_le (place + long) room then Ok (place + long) else Err NoSpace
 
 abbrev pub written : Event → ℕ → ℕ → Result ℕ ReaderFault
-written event room place = cond (stands_at event place) (fitted (size event) room place) (Err TagUnknown)
+written event room place = if stands_at event place then fitted (size event) room place else Err TagUnknown

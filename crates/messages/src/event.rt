@@ -1,25 +1,36 @@
 // The events that messages carry, one to a field.
 ghost use Rattle.std.specs.Prelude.{◌≡◌};
-ghost use Rattle.messages.specs.Encode.{kind_byte};
-ghost use Rattle.messages.specs.Field.{size, stands_at};
+ghost use Rattle.messages.specs.Field.{kind_byte, kind_of, tag, size, stands_at};
 
+use crate::fault::ReaderFault;
+use crate::tag::Tag;
 use amounts::wire::{WireKwh, WireKwhChange, WirePrice};
 
-// What the operator does in a balancing action.
+// What the operator does in a balancing action, each with its mark.
 #[derive(Clone, Copy, Debug, PartialEq, Eq)]
 pub enum ActionKind {
-    Buy,
-    Sell,
+    Buy = 0,
+    Sell = 1,
 }
 
-impl ActionKind {
-    // The byte that marks the kind.
-    pub(crate) fn mark(&self) -> u8
-        ensures { result ≡ kind_byte self.now }
-    {
-        match self {
-            ActionKind::Buy => 0,
-            ActionKind::Sell => 1,
+impl From<ActionKind> for u8 {
+    ghost from_gives = { λ kind mark. mark ≡ kind_byte kind };
+
+    fn from(kind: ActionKind) -> u8 {
+        kind as u8
+    }
+}
+
+impl TryFrom<u8> for ActionKind {
+    type Error = ReaderFault;
+
+    ghost try_from_gives = { λ mark answer. answer ≡ kind_of mark };
+
+    fn try_from(mark: u8) -> Result<ActionKind, ReaderFault> {
+        match mark {
+            0 => Ok(ActionKind::Buy),
+            1 => Ok(ActionKind::Sell),
+            _ => Err(ReaderFault::MarkUnknown),
         }
     }
 }
@@ -56,38 +67,36 @@ pub enum Event {
     Opening {
         users: u8,
         default_price: WirePrice,
-        average1: WirePrice,
-        average2: WirePrice,
-        average3: WirePrice,
-        average4: WirePrice,
-        average5: WirePrice,
-        average6: WirePrice,
-        average7: WirePrice,
+        averages: [WirePrice; 7],
     },
 }
 
 impl Event {
+    // The tag of the event's field.
+    pub(crate) fn tag(&self) -> Tag
+        ensures { result ≡ tag self.now }
+    {
+        match self {
+            Event::Figures { .. } => Tag::Figures,
+            Event::Trade { .. } => Tag::Trade,
+            Event::Action { .. } => Tag::Action,
+            Event::Close => Tag::Close,
+            Event::Reconcile { .. } => Tag::Reconcile,
+            Event::Opening { .. } => Tag::Opening,
+        }
+    }
+
     // How many bytes the event's field has, its tag and its length among them.
     pub(crate) fn size(&self) -> usize
         ensures { result ≡ size self.now }
     {
-        match self {
-            Event::Figures { .. } => 16,
-            Event::Trade { .. } => 9,
-            Event::Action { .. } => 14,
-            Event::Close => 3,
-            Event::Reconcile { .. } => 10,
-            Event::Opening { .. } => 36,
-        }
+        3 + usize::from(self.tag().value_length())
     }
 
     // Whether the event may stand at a place: an opening at the first, any other elsewhere.
     pub(crate) fn stands_at(&self, place: usize) -> bool
         ensures { result ≡ stands_at self.now place }
     {
-        match self {
-            Event::Opening { .. } => place == 0,
-            _ => place != 0,
-        }
+        self.tag().may_stand(place)
     }
 }

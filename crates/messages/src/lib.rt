@@ -6,4 +6,6 @@ pub mod fault;
 pub mod input;
 mod read;
 pub mod reader;
+mod tag;
+mod text;
 pub mod writer;

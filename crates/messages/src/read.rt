@@ -1,12 +1,16 @@
 // Reads one event after another from borrowed bytes.
-ghost use Rattle.std.specs.Prelude.{◌≡◌, drop, IfOk};
-ghost use Rattle.messages.specs.Decode.{figures, trade, action, close, reconcile, opening, tagged, field, decode, after};
+ghost use Rattle.std.specs.Prelude.{◌≡◌, ◌+◌, ◌≤◌, ◌<◌, drop, length, IfOk};
+ghost use Rattle.std.specs.Int.{w32, cast_signed};
+ghost use Rattle.messages.specs.Tag.{value_length};
+ghost use Rattle.messages.specs.Field.{flag_of};
+ghost use Rattle.messages.specs.Decode.{quad, event_of, valued, field, decode, after};
 ghost use Rattle.messages.specs.Message.{Message, Accepted, ReadsAs};
 ghost use Rattle.messages.specs.Left.{left, Falls};
 
 use crate::event::{ActionKind, Event};
 use crate::fault::ReaderFault;
 use crate::reader::Reader;
+use crate::tag::Tag;
 use amounts::wire::{WireKwh, WireKwhChange, WirePrice};
 
 impl Reader<'_> {
@@ -33,167 +37,87 @@ fn read_field(place: usize, left: &[u8]) -> Result<Event, ReaderFault>
     ensures value { result ≡ field place left.now }
     ensures message { IfOk result (Message place left.now) }
 {
-    let [tag, high, low, rest @ ..] = left else {
+    let [byte, high, low, rest @ ..] = left else {
         return Err(ReaderFault::HeaderTruncated);
     };
-    read_value(place, *tag, u16::from_be_bytes([*high, *low]), rest)
+    let tag = Tag::at(place, *byte)?;
+    read_value(tag, u16::from_be_bytes([*high, *low]), rest)
 }
 
-fn read_value(place: usize, tag: u8, len: u16, bytes: &[u8]) -> Result<Event, ReaderFault>
-    ensures { result ≡ tagged place tag len bytes.now }
+// The event under a tag, of the length and the bytes that follow it.
+fn read_value(tag: Tag, len: u16, bytes: &[u8]) -> Result<Event, ReaderFault>
+    ensures { result ≡ valued tag len bytes.now }
 {
-    match (place, tag) {
-        (0, 0x10) => read_opening(len, bytes),
-        (0, _) => Err(ReaderFault::TagUnknown),
-        (_, 0x01) => read_figures(len, bytes),
-        (_, 0x02) => read_trade(len, bytes),
-        (_, 0x03) => read_action(len, bytes),
-        (_, 0x04) => read_close(len),
-        (_, 0x05) => read_reconcile(len, bytes),
-        _ => Err(ReaderFault::TagUnknown),
-    }
-}
-
-fn read_figures(len: u16, bytes: &[u8]) -> Result<Event, ReaderFault>
-    ensures { result ≡ figures len bytes.now }
-{
-    if len != 13 {
+    if len != tag.value_length() {
         return Err(ReaderFault::LengthWrong);
     }
-    let [user, i0, i1, i2, i3, o0, o1, o2, o3, n0, n1, n2, n3, ..] = bytes else {
-        return Err(ReaderFault::ValueTruncated);
-    };
-    Ok(Event::Figures {
-        user: *user,
-        input: WireKwh(u32::from_be_bytes([*i0, *i1, *i2, *i3])),
-        output: WireKwh(u32::from_be_bytes([*o0, *o1, *o2, *o3])),
-        nomination: WireKwh(u32::from_be_bytes([*n0, *n1, *n2, *n3])),
+    let value = bytes
+        .get(..usize::from(len))
+        .ok_or(ReaderFault::ValueTruncated)?;
+    event_of(tag, value)
+}
+
+// The event that the bytes of a value say under a tag.
+fn event_of(tag: Tag, value: &[u8]) -> Result<Event, ReaderFault>
+    requires { length value.now ≡ value_length tag }
+    ensures { result ≡ event_of tag value.now }
+{
+    Ok(match tag {
+        Tag::Figures => Event::Figures {
+            user: value[0],
+            input: WireKwh(quad(value, 1)),
+            output: WireKwh(quad(value, 5)),
+            nomination: WireKwh(quad(value, 9)),
+        },
+        Tag::Trade => Event::Trade {
+            seller: value[0],
+            buyer: value[1],
+            quantity: WireKwh(quad(value, 2)),
+        },
+        Tag::Action => Event::Action {
+            user: value[0],
+            kind: ActionKind::try_from(value[1])?,
+            locational: flag(value[2])?,
+            quantity: WireKwh(quad(value, 3)),
+            price: WirePrice(quad(value, 7)),
+        },
+        Tag::Close => Event::Close,
+        Tag::Reconcile => Event::Reconcile {
+            user: value[0],
+            day: u16::from_be_bytes([value[1], value[2]]),
+            quantity: WireKwhChange(quad(value, 3).cast_signed()),
+        },
+        Tag::Opening => Event::Opening {
+            users: value[0],
+            default_price: WirePrice(quad(value, 1)),
+            averages: [
+                WirePrice(quad(value, 5)),
+                WirePrice(quad(value, 9)),
+                WirePrice(quad(value, 13)),
+                WirePrice(quad(value, 17)),
+                WirePrice(quad(value, 21)),
+                WirePrice(quad(value, 25)),
+                WirePrice(quad(value, 29)),
+            ],
+        },
     })
 }
 
-fn read_trade(len: u16, bytes: &[u8]) -> Result<Event, ReaderFault>
-    ensures { result ≡ trade len bytes.now }
+// The number that four bytes write from a place on, highest byte first.
+fn quad(value: &[u8], at: usize) -> u32
+    requires { at + 4 ≤ length value.now }
+    ensures { result ≡ quad value.now at }
 {
-    if len != 6 {
-        return Err(ReaderFault::LengthWrong);
-    }
-    let [seller, buyer, q0, q1, q2, q3, ..] = bytes else {
-        return Err(ReaderFault::ValueTruncated);
-    };
-    Ok(Event::Trade {
-        seller: *seller,
-        buyer: *buyer,
-        quantity: WireKwh(u32::from_be_bytes([*q0, *q1, *q2, *q3])),
-    })
+    u32::from_be_bytes([value[at], value[at + 1], value[at + 2], value[at + 3]])
 }
 
-fn read_action(len: u16, bytes: &[u8]) -> Result<Event, ReaderFault>
-    ensures { result ≡ action len bytes.now }
+// What a mark says: no or yes.
+fn flag(mark: u8) -> Result<bool, ReaderFault>
+    ensures { result ≡ flag_of mark }
 {
-    if len != 11 {
-        return Err(ReaderFault::LengthWrong);
+    match mark {
+        0 => Ok(false),
+        1 => Ok(true),
+        _ => Err(ReaderFault::MarkUnknown),
     }
-    let [user, kind, locational, q0, q1, q2, q3, p0, p1, p2, p3, ..] = bytes else {
-        return Err(ReaderFault::ValueTruncated);
-    };
-    let kind = match *kind {
-        0 => ActionKind::Buy,
-        1 => ActionKind::Sell,
-        _ => return Err(ReaderFault::MarkUnknown),
-    };
-    let locational = match *locational {
-        0 => false,
-        1 => true,
-        _ => return Err(ReaderFault::MarkUnknown),
-    };
-    Ok(Event::Action {
-        user: *user,
-        kind,
-        locational,
-        quantity: WireKwh(u32::from_be_bytes([*q0, *q1, *q2, *q3])),
-        price: WirePrice(u32::from_be_bytes([*p0, *p1, *p2, *p3])),
-    })
-}
-
-fn read_close(len: u16) -> Result<Event, ReaderFault>
-    ensures { result ≡ close len }
-{
-    if len != 0 {
-        return Err(ReaderFault::LengthWrong);
-    }
-    Ok(Event::Close)
-}
-
-fn read_reconcile(len: u16, bytes: &[u8]) -> Result<Event, ReaderFault>
-    ensures { result ≡ reconcile len bytes.now }
-{
-    if len != 7 {
-        return Err(ReaderFault::LengthWrong);
-    }
-    let [user, d0, d1, q0, q1, q2, q3, ..] = bytes else {
-        return Err(ReaderFault::ValueTruncated);
-    };
-    Ok(Event::Reconcile {
-        user: *user,
-        day: u16::from_be_bytes([*d0, *d1]),
-        quantity: WireKwhChange(i32::from_be_bytes([*q0, *q1, *q2, *q3])),
-    })
-}
-
-fn read_opening(len: u16, bytes: &[u8]) -> Result<Event, ReaderFault>
-    ensures { result ≡ opening len bytes.now }
-{
-    if len != 33 {
-        return Err(ReaderFault::LengthWrong);
-    }
-    let [
-        users,
-        d0,
-        d1,
-        d2,
-        d3,
-        a0,
-        a1,
-        a2,
-        a3,
-        b0,
-        b1,
-        b2,
-        b3,
-        c0,
-        c1,
-        c2,
-        c3,
-        e0,
-        e1,
-        e2,
-        e3,
-        f0,
-        f1,
-        f2,
-        f3,
-        g0,
-        g1,
-        g2,
-        g3,
-        h0,
-        h1,
-        h2,
-        h3,
-        ..
-    ] = bytes
-    else {
-        return Err(ReaderFault::ValueTruncated);
-    };
-    Ok(Event::Opening {
-        users: *users,
-        default_price: WirePrice(u32::from_be_bytes([*d0, *d1, *d2, *d3])),
-        average1: WirePrice(u32::from_be_bytes([*a0, *a1, *a2, *a3])),
-        average2: WirePrice(u32::from_be_bytes([*b0, *b1, *b2, *b3])),
-        average3: WirePrice(u32::from_be_bytes([*c0, *c1, *c2, *c3])),
-        average4: WirePrice(u32::from_be_bytes([*e0, *e1, *e2, *e3])),
-        average5: WirePrice(u32::from_be_bytes([*f0, *f1, *f2, *f3])),
-        average6: WirePrice(u32::from_be_bytes([*g0, *g1, *g2, *g3])),
-        average7: WirePrice(u32::from_be_bytes([*h0, *h1, *h2, *h3])),
-    })
 }

@@ -1,13 +1,15 @@
 // Writes an event's field into a lent buffer.
-ghost use Rattle.std.specs.Prelude.{◌≡◌, length, is_ok, if◌then◌else◌, Some, Ok, OnOk};
-ghost use Rattle.messages.specs.Decode.{decode};
-ghost use Rattle.messages.specs.Encode.{encode, Whole};
+ghost use Rattle.std.specs.Prelude.{◌≡◌, ◌+◌, ◌*◌, ◌^◌, ◌<◌, ◌≤◌, ◌++◌, length, is_ok, if◌then◌else◌, Some, Ok, OnOk};
+ghost use Rattle.std.specs.List.{All};
+ghost use Rattle.messages.specs.Tag.{value_length};
 ghost use Rattle.messages.specs.Field.{size};
+ghost use Rattle.messages.specs.Decode.{decode};
+ghost use Rattle.messages.specs.Encode.{quads_of, framed, encode, Whole};
 ghost use Rattle.messages.specs.Write.{put, fitted, written};
 
 use crate::event::Event;
 use crate::fault::ReaderFault;
-use amounts::wire::WirePrice;
+use crate::tag::Tag;
 
 // Writes the event's field at a place of the buffer, and answers the place after it.
 pub fn write(event: &Event, buffer: &mut [u8], place: usize) -> Result<usize, ReaderFault>
@@ -32,119 +34,101 @@ fn write_event(event: Event, buffer: &mut [u8], place: usize) -> Result<usize, R
             input,
             output,
             nomination,
-        } => {
-            let [i0, i1, i2, i3] = input.0.to_be_bytes();
-            let [o0, o1, o2, o3] = output.0.to_be_bytes();
-            let [n0, n1, n2, n3] = nomination.0.to_be_bytes();
-            write_field(
-                buffer,
-                place,
-                &[
-                    0x01, 0, 13, user, i0, i1, i2, i3, o0, o1, o2, o3, n0, n1, n2, n3,
-                ],
-            )
-        }
+        } => write_field(
+            buffer,
+            place,
+            Tag::Figures,
+            &[user],
+            &[input.0, output.0, nomination.0],
+        ),
         Event::Trade {
             seller,
             buyer,
             quantity,
-        } => {
-            let [q0, q1, q2, q3] = quantity.0.to_be_bytes();
-            write_field(buffer, place, &[0x02, 0, 6, seller, buyer, q0, q1, q2, q3])
-        }
+        } => write_field(buffer, place, Tag::Trade, &[seller, buyer], &[quantity.0]),
         Event::Action {
             user,
             kind,
             locational,
             quantity,
             price,
-        } => {
-            let kind = kind.mark();
-            let locational = u8::from(locational);
-            let [q0, q1, q2, q3] = quantity.0.to_be_bytes();
-            let [p0, p1, p2, p3] = price.0.to_be_bytes();
-            write_field(
-                buffer,
-                place,
-                &[
-                    0x03, 0, 11, user, kind, locational, q0, q1, q2, q3, p0, p1, p2, p3,
-                ],
-            )
-        }
-        Event::Close => write_field(buffer, place, &[0x04, 0, 0]),
+        } => write_field(
+            buffer,
+            place,
+            Tag::Action,
+            &[user, u8::from(kind), u8::from(locational)],
+            &[quantity.0, price.0],
+        ),
+        Event::Close => write_field(buffer, place, Tag::Close, &[], &[]),
         Event::Reconcile {
             user,
             day,
             quantity,
         } => {
-            let [d0, d1] = day.to_be_bytes();
-            let [q0, q1, q2, q3] = quantity.0.to_be_bytes();
-            write_field(buffer, place, &[0x05, 0, 7, user, d0, d1, q0, q1, q2, q3])
+            let [high, low] = day.to_be_bytes();
+            write_field(
+                buffer,
+                place,
+                Tag::Reconcile,
+                &[user, high, low],
+                &[quantity.0.cast_unsigned()],
+            )
         }
         Event::Opening {
             users,
             default_price,
-            average1,
-            average2,
-            average3,
-            average4,
-            average5,
-            average6,
-            average7,
+            averages,
         } => {
-            let field = opening_field(
-                users,
-                default_price,
-                average1,
-                average2,
-                average3,
-                average4,
-                average5,
-                average6,
-                average7,
-            );
-            write_field(buffer, place, &field)
+            let [d0, d1, d2, d3] = default_price.0.to_be_bytes();
+            write_field(
+                buffer,
+                place,
+                Tag::Opening,
+                &[users, d0, d1, d2, d3],
+                &averages.map(|average| average.0),
+            )
         }
     }
 }
 
-fn opening_field(
-    users: u8,
-    default_price: WirePrice,
-    average1: WirePrice,
-    average2: WirePrice,
-    average3: WirePrice,
-    average4: WirePrice,
-    average5: WirePrice,
-    average6: WirePrice,
-    average7: WirePrice,
-) -> [u8; 36]
-    ensures value { result ≡ encode (Event.Opening users default_price average1 average2 average3 average4 average5 average6 average7) }
-    ensures whole { Whole (Event.Opening users default_price average1 average2 average3 average4 average5 average6 average7) }
+// Puts a field into the buffer, where it fits: the tag, the length, and a value of bytes and then numbers.
+fn write_field(
+    buffer: &mut [u8],
+    place: usize,
+    tag: Tag,
+    bytes: &[u8],
+    numbers: &[u32],
+) -> Result<usize, ReaderFault>
+    requires { length bytes.now + 4 * length numbers.now ≡ value_length tag }
+    ensures value { result ≡ fitted (3 + value_length tag) (length buffer.old) place }
+    ensures after { buffer.new ≡ (if is_ok result then put buffer.old place (framed tag (bytes.now ++ quads_of numbers.now)) else buffer.old) }
+    ensures fit { All (λ n. n < 2 ^ 32) numbers.now }
 {
-    let [d0, d1, d2, d3] = default_price.0.to_be_bytes();
-    let [a0, a1, a2, a3] = average1.0.to_be_bytes();
-    let [b0, b1, b2, b3] = average2.0.to_be_bytes();
-    let [c0, c1, c2, c3] = average3.0.to_be_bytes();
-    let [e0, e1, e2, e3] = average4.0.to_be_bytes();
-    let [f0, f1, f2, f3] = average5.0.to_be_bytes();
-    let [g0, g1, g2, g3] = average6.0.to_be_bytes();
-    let [h0, h1, h2, h3] = average7.0.to_be_bytes();
-    [
-        0x10, 0, 33, users, d0, d1, d2, d3, a0, a1, a2, a3, b0, b1, b2, b3, c0, c1, c2, c3, e0, e1,
-        e2, e3, f0, f1, f2, f3, g0, g1, g2, g3, h0, h1, h2, h3,
-    ]
-}
-
-// Puts the bytes of a field into the buffer, where they fit.
-fn write_field(buffer: &mut [u8], place: usize, field: &[u8]) -> Result<usize, ReaderFault>
-    ensures value { result ≡ fitted (length field.now) (length buffer.old) place }
-    ensures after { buffer.new ≡ (if is_ok result then put buffer.old place field.now else buffer.old) }
-{
-    if place > buffer.len() || buffer.len() - place < field.len() {
+    let size = 3 + usize::from(tag.value_length());
+    if place > buffer.len() || buffer.len() - place < size {
         return Err(ReaderFault::NoSpace);
     }
-    let end = place + field.len();
-    buffer[place..end].copy_from_slice(field);
-    Ok(end)
+    let [high, low] = tag.value_length().to_be_bytes();
+    put(buffer, place, &[u8::from(tag), high, low]);
+    put(buffer, place + 3, bytes);
+    put_numbers(buffer, place + 3 + bytes.len(), numbers);
+    Ok(place + size)
+}
+
+// Puts numbers into the buffer from a place on, each in four bytes, highest byte first.
+fn put_numbers(buffer: &mut [u8], place: usize, numbers: &[u32])
+    requires { place + 4 * length numbers.now ≤ length buffer.old }
+    ensures { buffer.new ≡ put buffer.old place (quads_of numbers.now) }
+{
+    for (i, number) in numbers.iter().enumerate() {
+        put(buffer, place + 4 * i, &number.to_be_bytes());
+    }
+}
+
+// Puts bytes into the buffer from a place on.
+fn put(buffer: &mut [u8], place: usize, bytes: &[u8])
+    requires { place + length bytes.now ≤ length buffer.old }
+    ensures { buffer.new ≡ put buffer.old place bytes.now }
+{
+    buffer[place..place + bytes.len()].copy_from_slice(bytes);
 }

@@ -1,13 +1,11 @@
-use Rattle.std.proofs.Common.{◌≡◌, ◌+◌, ◌-◌, ◌++◌, length, take, drop, ap, ◌∙◌, arith, drop-drop, rules}
+use Rattle.std.proofs.Common.{◌∷◌, [], ◌+◌, ◌++◌, get_or, arith, rules}
+use Rattle.messages.specs.Encode.{quads_of}
+use Rattle.messages.proofs.Written.{put_put}
 use Rattle.messages.proofs.writer.write_field.Goals as goal
 
-pub returns : goal.returns
-returns c =
-    let long = length c.args.field.now in
-    let place = c.args.place in
-    let buffer = c.args.buffer.now in
-    let rest : drop (place + long - place) (drop place buffer) ≡ drop (place + long) buffer = drop-drop (place + long - place) place buffer ∙ ap (λ n. drop n buffer) (omega arith) in
-    record {
-      value = search rules;
-      after = λ i. take place buffer ++ (c.copy_from_slice.ensures.after i ++ rest i);
-    }
+pub returns-clause-after : goal.returns-clause-after
+returns-clause-after c =
+    let value = c.args.bytes.now ++ quads_of c.args.numbers.now in
+    let in_value = put_put c.put.new.buffer (c.args.place + 3) c.args.bytes.now (quads_of c.args.numbers.now) (omega arith) in
+    let in_field = put_put c.args.buffer.now c.args.place (c.from.result ∷ get_or c.to_be_bytes.result 0 0 ∷ get_or c.to_be_bytes.result 1 0 ∷ []) value (omega arith) in
+    search rules
