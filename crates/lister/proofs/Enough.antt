@@ -4,17 +4,14 @@ use Rattle.messages.specs.declared.event.Event.{Event}
 use Rattle.messages.specs.declared.fault.ReaderFault.{ReaderFault}
 use Rattle.messages.specs.Decode.{field, some, decode}
 use Rattle.messages.specs.Field.{size}
-use Rattle.messages.proofs.Steps.{size_least, decode_end, decode_within}
+use Rattle.messages.proofs.Fields.{size_least, decode_end, decode_within}
 use Rattle.lister.specs.declared.line.Line.TheVariants.{Read}
 use Rattle.lister.specs.Lines.{answered, lines_from, lines_left}
-
-none_some : (event : Event) → ◌≡◌ {A = Result (Option Event) ReaderFault} (Ok None) (Ok (Some event)) → ⊥
-none_some event e = let z : ◌≡◌ {A = ℕ} 0 1 = cc in omega arith
 
 -- an event is read only before the end of the bytes
 pub read_within : (bytes : List ℕ) (place : ℕ) (event : Event) → decode place bytes ≡ Ok (Some event) → place < length bytes
 read_within bytes place event e =
-    let no : length bytes ≤ place → ⊥ = λ h. none_some event (sym (decode_end place bytes h) ∙ e) in
+    let no : length bytes ≤ place → ⊥ = λ h. let z = sym (decode_end place bytes h) ∙ e in cc in
     omega arith
 
 -- the bytes left after an event are fewer than the turns left
@@ -46,8 +43,8 @@ module _ (bytes : List ℕ) (events place : ℕ) where
   left_by (Err fault) e = ap (answered (lines_from (length bytes - place) bytes) bytes events place) (sym e)
 
 some_none : (r : Result Event ReaderFault) → Ok None ≡ some r → ⊥
-some_none (Ok event) e = none_some event e
-some_none (Err fault) e = let z : ◌≡◌ {A = ℕ} 0 1 = cc in omega arith
+some_none (Ok event) e = cc
+some_none (Err fault) e = cc
 
 -- where no event is left, the reader stands at the end of the bytes
 pub end_at : (place : ℕ) (bytes : List ℕ) → place ≤ length bytes → Ok None ≡ decode place bytes → length bytes ≡ place

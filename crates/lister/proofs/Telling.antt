@@ -10,25 +10,19 @@ use Rattle.messages.specs.Message.{Message}
 use Rattle.messages.proofs.Canonical.{field_message}
 use Rattle.messages.proofs.Numbers.{Bytes}
 use Rattle.messages.proofs.RoundTrip.{message_reads}
-use Rattle.messages.proofs.Steps.{Answer, encode_size, decode_end, decode_within}
+use Rattle.messages.proofs.Fields.{Answer, encode_size, decode_end, decode_within}
 use Rattle.lister.specs.Lines.{answered, lines_from, lines_left, coming_at, first_stage, listed}
 use Rattle.lister.specs.Tells.{Tells}
 use Rattle.lister.proofs.Enough.{read_within, fewer, end_at}
 
 accepted : (P : Event → Type 0) (event : Event) (r : Answer) → some r ≡ Ok (Some event) → IfOk r P → P event
 accepted P event (Ok read) e p = let same : read ≡ event = cc in subst P same p
-accepted P event (Err fault) e p = let z : ◌≡◌ {A = ℕ} 0 1 = cc in absurd (omega arith)
+accepted P event (Err fault) e p = cc
 
 message_within : (place : ℕ) (bs : List ℕ) (event : Event) → Message place bs event → size event ≤ length bs
 message_within place bs event m =
-    let long : length (take (size event) bs) ≡ size event = ap length m.same ∙ encode_size event in
+    let long : length (take (size event) bs) ≡ size event = ap length m.same ∙ encode_size event m.whole in
     omega (arith, length-take (size event) bs)
-
-err_some : (fault : ReaderFault) (event : Event) → ◌≡◌ {A = Result (Option Event) ReaderFault} (Err fault) (Ok (Some event)) → ⊥
-err_some fault event e = let z : ◌≡◌ {A = ℕ} 0 1 = cc in omega arith
-
-err_none : (fault : ReaderFault) → ◌≡◌ {A = Result (Option Event) ReaderFault} (Err fault) (Ok None) → ⊥
-err_none fault e = let z : ◌≡◌ {A = ℕ} 0 1 = cc in omega arith
 
 module _ (bytes : List ℕ) (b : Bytes bytes) where
   read_message : (place : ℕ) (event : Event) → decode place bytes ≡ Ok (Some event) → Message place (drop place bytes) event
@@ -46,8 +40,8 @@ module _ (bytes : List ℕ) (b : Bytes bytes) where
   tells_by most events place h (Ok None) e more = (drop_all place bytes (omega (arith, end_at place bytes h (sym e))), refl, end_at place bytes h (sym e), refl)
   tells_by most events place h (Err fault) e more = (
     refl,
-    (λ none. err_none fault (sym e ∙ decode_end place bytes (omega (arith, length-drop place bytes, ap length none)))),
-    (λ event m. err_some fault event (sym e ∙ message_reads place bytes event m)),
+    (λ none. let z = sym e ∙ decode_end place bytes (omega (arith, length-drop place bytes, ap length none)) in cc),
+    (λ event m. let z = sym e ∙ message_reads place bytes event m in cc),
     refl,
   )
 

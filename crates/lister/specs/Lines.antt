@@ -46,11 +46,3 @@ listed bytes = coming_at (first_stage (limited (length bytes))) bytes 0 0
 
 abbrev pub coming : Listing → List Line
 coming l = coming_at l.stage l.reader.bytes.now l.events l.reader.place
-
-abbrev pub first_line_of : List Line → Option Line
-first_line_of [] = None
-first_line_of (line ∷ lines) = Some line
-
-abbrev pub other_lines_of : List Line → List Line
-other_lines_of [] = []
-other_lines_of (line ∷ lines) = lines

@@ -4,4 +4,3 @@
 pub mod line;
 mod lines;
 pub mod listing;
-pub mod text;

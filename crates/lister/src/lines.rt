@@ -1,8 +1,9 @@
 // Lists a run of bytes: a line for each event, then one that counts them or says what was refused.
-ghost use Rattle.std.specs.Prelude.{◌≡◌, ◌<◌, ◌≤◌, true, ◌∷◌, length, is_some};
+ghost use Rattle.std.specs.Prelude.{◌≡◌, ◌≤◌, ◌∷◌, length};
+ghost use Rattle.std.specs.Iterator.{YieldsFirst, item_count};
 ghost use Rattle.messages.specs.Input.{limited};
 ghost use Rattle.lister.specs.declared.listing.Stage.TheVariants.{Reading};
-ghost use Rattle.lister.specs.Lines.{first_stage, listed, coming, first_line_of, other_lines_of};
+ghost use Rattle.lister.specs.Lines.{first_stage, listed, coming};
 ghost use Rattle.lister.specs.Tells.{Tells};
 
 use crate::line::Line;
@@ -20,25 +21,6 @@ impl<'a> Listing<'a> {
             reader: Reader::new(bytes),
             events: 0,
             stage: first_stage(bytes),
-        }
-    }
-
-    // The next line, or none after the last.
-    pub fn next_line(&mut self) -> Option<Line>
-        ensures line { result ≡ first_line_of (coming self.old) }
-        ensures rest { coming self.new ≡ other_lines_of (coming self.old) }
-        ensures falls { is_some result ≡ true → length (coming self.new) < length (coming self.old) }
-    {
-        match self.stage {
-            Stage::TooLong => {
-                self.stage = Stage::Ended;
-                Some(Line::Refused {
-                    fault: ReaderFault::InputTooLong,
-                    place: INPUT_LIMIT,
-                })
-            }
-            Stage::Reading => Some(self.read_line()),
-            Stage::Ended => None,
         }
     }
 
@@ -64,6 +46,29 @@ impl<'a> Listing<'a> {
                 self.stage = Stage::Ended;
                 Line::Refused { fault, place }
             }
+        }
+    }
+}
+
+// The lines, one after another.
+impl Iterator for Listing<'_> {
+    type Item = Line;
+
+    ghost next_gives = { YieldsFirst coming };
+
+    ghost remaining = { item_count coming };
+
+    fn next(&mut self) -> Option<Line> {
+        match self.stage {
+            Stage::TooLong => {
+                self.stage = Stage::Ended;
+                Some(Line::Refused {
+                    fault: ReaderFault::InputTooLong,
+                    place: INPUT_LIMIT,
+                })
+            }
+            Stage::Reading => Some(self.read_line()),
+            Stage::Ended => None,
         }
     }
 }

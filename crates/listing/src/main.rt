@@ -11,11 +11,8 @@ fn main(rt: HostRuntime) -> io::Result<()> {
     rt.stdin()
         .take(INPUT_LIMIT as u64 + 1)
         .read_to_end(&mut bytes)?;
-    let mut listing = Listing::new(bytes.as_slice());
-    loop {
-        let Some(line) = listing.next_line() else {
-            return Ok(());
-        };
+    for line in Listing::new(bytes.as_slice()) {
         println!(rt; "{line}")?;
     }
+    Ok(())
 }
