@@ -17,12 +17,7 @@ fn closes(heap: Global, count: usize) -> Result<Vec<u8>, AllocError> {
 
 // The last line of a listing.
 fn last(bytes: &[u8]) -> Option<Line> {
-    let mut listing = Listing::new(bytes);
-    let mut last = None;
-    while let Some(line) = listing.next_line() {
-        last = Some(line);
-    }
-    last
+    Listing::new(bytes).last()
 }
 
 // 65,536 bytes are listed; with one more, nothing is.
@@ -42,8 +37,8 @@ fn input_limit(rt: HostRuntime) -> Result<(), Fail> {
         fault: ReaderFault::InputTooLong,
         place: 65_536,
     };
-    assert_eq!(rt; listing.next_line(), Some(refused));
-    assert_eq!(rt; listing.next_line(), None);
+    assert_eq!(rt; listing.next(), Some(refused));
+    assert_eq!(rt; listing.next(), None);
     assert!(rt; format!(in rt.alloc(); "{refused}")?.as_str() == "refused 7 at 65536");
     Ok(())
 }
@@ -62,10 +57,10 @@ fn fields_by_name(rt: HostRuntime) -> Result<(), Fail> {
         "89 reconcile user 7 day 258 quantity -2147483647",
         "6 events 99 bytes",
     ] {
-        let line = listing.next_line().ok_or("no line")?;
+        let line = listing.next().ok_or("no line")?;
         assert!(rt; format!(in heap; "{line}")?.as_str() == text);
     }
-    assert_eq!(rt; listing.next_line(), None);
+    assert_eq!(rt; listing.next(), None);
     Ok(())
 }
 

@@ -1,3 +1,4 @@
+use amounts::fault::Fault;
 use amounts::layer::Layer;
 use amounts::wire::{WireKwh, WireKwhChange, WirePrice};
 use messages::event::{ActionKind, Event};
@@ -31,17 +32,10 @@ pub const APART: [u8; 99] = *b"\
       \x05\x00\x07\x07\x01\x02\x80\x00\x00\x01";
 
 fn opening() -> Event {
-    let average = WirePrice(20_000);
     Event::Opening {
         users: 2,
         default_price: WirePrice(100),
-        average1: average,
-        average2: average,
-        average3: average,
-        average4: average,
-        average5: average,
-        average6: average,
-        average7: average,
+        averages: [WirePrice(20_000); 7],
     }
 }
 

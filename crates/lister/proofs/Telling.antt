@@ -1,5 +1,5 @@
 -- The lines tell the bytes.
-use Rattle.std.proofs.Common.{◌≡◌, ℕ, zero, suc, ◌+◌, ◌-◌, ◌<◌, ◌≤◌, cond, List, length, take, drop, IfOk, Some, None, Ok, Err, Option, Result, sym, refl, ap, ◌∙◌, subst, arith, length-drop, length-take, get_or-drop, drop-drop, le-leb}
+use Rattle.std.proofs.Common.{◌≡◌, ℕ, zero, suc, ◌+◌, ◌-◌, ◌<◌, ◌≤◌, cond, List, length, take, drop, IfOk, Some, None, Ok, Err, Option, Result, sym, refl, ap, ◌∙◌, subst, arith, length-drop, length-take, drop-drop, le-leb}
 use Rattle.std.proofs.lemmas.List.{drop_all}
 use Rattle.messages.specs.declared.event.Event.{Event}
 use Rattle.messages.specs.declared.fault.ReaderFault.{ReaderFault}
@@ -8,7 +8,7 @@ use Rattle.messages.specs.Decode.{field, some, decode}
 use Rattle.messages.specs.Field.{size}
 use Rattle.messages.specs.Message.{Message}
 use Rattle.messages.proofs.Canonical.{field_message}
-use Rattle.messages.proofs.Numbers.{Bytes}
+use Rattle.messages.proofs.Numbers.{Bytes, drop_bytes}
 use Rattle.messages.proofs.RoundTrip.{message_reads}
 use Rattle.messages.proofs.Fields.{Answer, encode_size, decode_end, decode_within}
 use Rattle.lister.specs.Lines.{answered, lines_from, lines_left, coming_at, first_stage, listed}
@@ -28,8 +28,7 @@ module _ (bytes : List ℕ) (b : Bytes bytes) where
   read_message : (place : ℕ) (event : Event) → decode place bytes ≡ Ok (Some event) → Message place (drop place bytes) event
   read_message place event e =
       let within : place < length bytes = read_within bytes place event e in
-      let vb : Bytes (drop place bytes) = λ i. subst (λ n. n < 256) (sym (get_or-drop place bytes i 0)) (b (place + i)) in
-      accepted (Message place (drop place bytes)) event (field place (drop place bytes)) (sym (decode_within place bytes within) ∙ e) (field_message place (drop place bytes) vb)
+      accepted (Message place (drop place bytes)) event (field place (drop place bytes)) (sym (decode_within place bytes within) ∙ e) (field_message place (drop place bytes) (drop_bytes place bytes b))
 
   tells_by : (most events place : ℕ) → place ≤ length bytes → (r : Result (Option Event) ReaderFault) → decode place bytes ≡ r → ((event : Event) → decode place bytes ≡ Ok (Some event) → place + size event ≤ length bytes → Tells (drop (place + size event) bytes) (events + 1) (place + size event) (lines_from most bytes (events + 1) (place + size event))) → Tells (drop place bytes) events place (answered (lines_from most bytes) bytes events place r)
   tells_by most events place h (Ok (Some event)) e more =

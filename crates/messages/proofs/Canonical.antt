@@ -1,5 +1,5 @@
 -- What a reader accepts is the message of its event.
-use Rattle.std.proofs.Common.{◌≡◌, ℕ, suc, ◌+◌, ◌^◌, ◌<◌, ◌≤◌, true, eqb, leb, List, [], ◌∷◌, length, get_or, take, drop, IfOk, Ok, Err, Result, sym, refl, ap, ◌∙◌, subst, arith, get_or-drop, length-take-le, eqb-true, leb-true}
+use Rattle.std.proofs.Common.{◌≡◌, ℕ, suc, false, ◌+◌, ◌^◌, ◌<◌, ◌≤◌, true, eqb, leb, List, [], ◌∷◌, length, get_or, take, drop, IfOk, Ok, Err, Result, sym, refl, ap, ◌∙◌, arith, length-take-le, eqb-true, leb-true}
 use Rattle.std.specs.Int.{w32, cast_signed, cast_unsigned}
 use Rattle.std.specs.List.{find}
 use Rattle.std.specs.Option.{ok_or}
@@ -9,6 +9,7 @@ use Rattle.std.proofs.lemmas.List.Elements.{All-map}
 use Rattle.std.proofs.lemmas.Result.{IfOk-weaker}
 use mir.Facts.{sfits_to_z}
 use Rattle.amounts.specs.declared.wire.WirePrice.{WirePrice}
+use Rattle.messages.specs.declared.event.ActionKind.TheVariants.{Buy, Sell}
 use Rattle.messages.specs.declared.event.Event.{Event}
 use Rattle.messages.specs.declared.fault.ReaderFault.{ReaderFault}
 use Rattle.messages.specs.declared.fault.ReaderFault.TheVariants.{TagUnknown}
@@ -16,11 +17,11 @@ use Rattle.messages.specs.declared.tag.Tag.{Tag}
 use Rattle.messages.specs.declared.tag.Tag.TheVariants.{Figures as FiguresTag, Trade as TradeTag, Action as ActionTag, Close as CloseTag, Reconcile as ReconcileTag, Opening as OpeningTag}
 use Rattle.messages.specs.Steps.{◌>>=◌}
 use Rattle.messages.specs.Tag.{byte, value_length, may_stand, tags, tag_of, tag_at}
-use Rattle.messages.specs.Field.{tag, size, kind_byte, flag_byte, kind_of, flag_of}
+use Rattle.messages.specs.Field.{tag, size, kind_byte, flag_byte, marked, kind_of, flag_of}
 use Rattle.messages.specs.Decode.{pair, quad, price, event_of, valued, field}
 use Rattle.messages.specs.Encode.{pair_of, quad_of, value, encode, Whole}
 use Rattle.messages.specs.Message.{Message}
-use Rattle.messages.proofs.Numbers.{Bytes, quad_at, pair_at, quad_fits, pair_fits, spread, take_bytes}
+use Rattle.messages.proofs.Numbers.{Bytes, quad_at, pair_at, quad_fits, pair_fits, spread, take_bytes, drop_bytes}
 
 -- where a step came out, and so what follows it
 by_step : {A B : Type 0} (P : A → Type 0) (Q : B → Type 0) (r : Result A ReaderFault) (next : A → Result B ReaderFault) → IfOk r P → ((x : A) → P x → IfOk (next x) Q) → IfOk (r >>= next) Q
@@ -40,15 +41,10 @@ unfolding Stands
 tag_back place n =
     by_step _ _ (tag_of n) _ (tag_found n tags) (λ t is. cond_both (may_stand t place) _ _ (λ (r : Result Tag ReaderFault). IfOk r (Stands place n)) (λ known. (is, known)) (λ _. tt))
 
-kind_back : (n : ℕ) → IfOk (kind_of n) (λ kind. kind_byte kind ≡ n)
-kind_back n =
-    cond_both (eqb n 0) _ _ (λ r. IfOk r (λ kind. kind_byte kind ≡ n)) (λ e. sym (eqb-true _ _ e))
-    (λ _. cond_both (eqb n 1) _ _ (λ r. IfOk r (λ kind. kind_byte kind ≡ n)) (λ e. sym (eqb-true _ _ e)) (λ _. tt))
-
-flag_back : (n : ℕ) → IfOk (flag_of n) (λ flag. flag_byte flag ≡ n)
-flag_back n =
-    cond_both (eqb n 0) _ _ (λ r. IfOk r (λ flag. flag_byte flag ≡ n)) (λ e. sym (eqb-true _ _ e))
-    (λ _. cond_both (eqb n 1) _ _ (λ r. IfOk r (λ flag. flag_byte flag ≡ n)) (λ e. sym (eqb-true _ _ e)) (λ _. tt))
+marked_back : {A : Type 0} (byte_of : A → ℕ) (x y : A) (n : ℕ) → byte_of x ≡ 0 → byte_of y ≡ 1 → IfOk (marked x y n) (λ z. byte_of z ≡ n)
+marked_back {A} byte_of x y n p q =
+    let Says : Result A ReaderFault → Type 0 = λ r. IfOk r (λ z. byte_of z ≡ n) in
+    cond_both (eqb n 0) _ _ Says (λ e. p ∙ sym (eqb-true _ _ e)) (λ _. cond_both (eqb n 1) _ _ Says (λ e. q ∙ sym (eqb-true _ _ e)) (λ _. tt))
 
 -- the event has the tag, and its value is the bytes
 record Says (t : Tag) (v : List ℕ) (event : Event) : Type 0 where
@@ -59,8 +55,8 @@ record Says (t : Tag) (v : List ℕ) (event : Event) : Type 0 where
 module _ (v : List ℕ) (b : Bytes v) where
   is_action : length v ≡ 11 → IfOk (event_of ActionTag v) (Says ActionTag v)
   is_action long =
-      by_step _ _ (kind_of (get_or v 1 0)) _ (kind_back (get_or v 1 0))
-      (λ kind k. by_step _ _ (flag_of (get_or v 2 0)) _ (flag_back (get_or v 2 0))
+      by_step _ _ (kind_of (get_or v 1 0)) _ (marked_back kind_byte Buy Sell (get_or v 1 0) refl refl)
+      (λ kind k. by_step _ _ (flag_of (get_or v 2 0)) _ (marked_back flag_byte false true (get_or v 2 0) refl refl)
       (λ flag f. let numbers : quad_of (quad v 3) (quad_of (quad v 7) []) ≡ get_or v 3 0 ∷ get_or v 4 0 ∷ get_or v 5 0 ∷ get_or v 6 0 ∷ get_or v 7 0 ∷ get_or v 8 0 ∷ get_or v 9 0 ∷ get_or v 10 0 ∷ [] = quad_at v b 3 (quad_at v b 7 refl) in
       record {
         whole = (b 0, quad_fits v b 3, quad_fits v b 7);
@@ -122,7 +118,7 @@ module _ (place : ℕ) (bs : List ℕ) (b : Bytes bs) (some : 3 ≤ length bs) w
   value_message t known =
       cond_both (eqb (pair bs 1) (value_length t)) _ _ (λ r. IfOk r (Message place bs))
       (λ long. cond_both (leb (value_length t) (length (drop 3 bs))) _ _ (λ r. IfOk r (Message place bs))
-      (λ fits. IfOk-weaker _ _ _ (message t known (eqb-true _ _ long)) (says (take (value_length t) (drop 3 bs)) (take_bytes (value_length t) (drop 3 bs) (λ i. subst (λ n. n < 256) (sym (get_or-drop 3 bs i 0)) (b (3 + i)))) t (length-take-le (value_length t) (drop 3 bs) (leb-true _ _ fits))))
+      (λ fits. IfOk-weaker _ _ _ (message t known (eqb-true _ _ long)) (says (take (value_length t) (drop 3 bs)) (take_bytes (value_length t) (drop 3 bs) (drop_bytes 3 bs b)) t (length-take-le (value_length t) (drop 3 bs) (leb-true _ _ fits))))
       (λ _. tt))
       (λ _. tt)
 

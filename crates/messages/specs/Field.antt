@@ -35,8 +35,12 @@ abbrev pub flag_byte : Bool → ℕ
 flag_byte false = 0
 flag_byte true = 1
 
+-- what a mark says: the first for 0, the second for 1
+abbrev pub marked : {A : Type 0} → A → A → ℕ → Result A ReaderFault
+marked zero one mark = if mark == 0 then Ok zero else (if mark == 1 then Ok one else Err MarkUnknown)
+
 abbrev pub kind_of : ℕ → Result ActionKind ReaderFault
-kind_of mark = if mark == 0 then Ok Buy else (if mark == 1 then Ok Sell else Err MarkUnknown)
+kind_of = marked Buy Sell
 
 abbrev pub flag_of : ℕ → Result Bool ReaderFault
-flag_of mark = if mark == 0 then Ok false else (if mark == 1 then Ok true else Err MarkUnknown)
+flag_of = marked false true

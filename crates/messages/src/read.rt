@@ -12,6 +12,7 @@ use crate::fault::ReaderFault;
 use crate::reader::Reader;
 use crate::tag::Tag;
 use amounts::wire::{WireKwh, WireKwhChange, WirePrice};
+use std::array;
 
 impl Reader<'_> {
     // The next event, or none at the end of the bytes. A refusal leaves the reader where it was.
@@ -90,15 +91,7 @@ fn event_of(tag: Tag, value: &[u8]) -> Result<Event, ReaderFault>
         Tag::Opening => Event::Opening {
             users: value[0],
             default_price: WirePrice(quad(value, 1)),
-            averages: [
-                WirePrice(quad(value, 5)),
-                WirePrice(quad(value, 9)),
-                WirePrice(quad(value, 13)),
-                WirePrice(quad(value, 17)),
-                WirePrice(quad(value, 21)),
-                WirePrice(quad(value, 25)),
-                WirePrice(quad(value, 29)),
-            ],
+            averages: array::from_fn(|i| WirePrice(quad(value, 5 + 4 * i))),
         },
     })
 }

@@ -28,6 +28,7 @@ fn write_event(event: Event, buffer: &mut [u8], place: usize) -> Result<usize, R
     ensures after { buffer.new ≡ (if is_ok result then put buffer.old place (encode event) else buffer.old) }
     ensures whole { Whole event }
 {
+    let tag = event.tag();
     match event {
         Event::Figures {
             user,
@@ -37,7 +38,7 @@ fn write_event(event: Event, buffer: &mut [u8], place: usize) -> Result<usize, R
         } => write_field(
             buffer,
             place,
-            Tag::Figures,
+            tag,
             &[user],
             &[input.0, output.0, nomination.0],
         ),
@@ -45,7 +46,7 @@ fn write_event(event: Event, buffer: &mut [u8], place: usize) -> Result<usize, R
             seller,
             buyer,
             quantity,
-        } => write_field(buffer, place, Tag::Trade, &[seller, buyer], &[quantity.0]),
+        } => write_field(buffer, place, tag, &[seller, buyer], &[quantity.0]),
         Event::Action {
             user,
             kind,
@@ -55,11 +56,11 @@ fn write_event(event: Event, buffer: &mut [u8], place: usize) -> Result<usize, R
         } => write_field(
             buffer,
             place,
-            Tag::Action,
+            tag,
             &[user, u8::from(kind), u8::from(locational)],
             &[quantity.0, price.0],
         ),
-        Event::Close => write_field(buffer, place, Tag::Close, &[], &[]),
+        Event::Close => write_field(buffer, place, tag, &[], &[]),
         Event::Reconcile {
             user,
             day,
@@ -69,7 +70,7 @@ fn write_event(event: Event, buffer: &mut [u8], place: usize) -> Result<usize, R
             write_field(
                 buffer,
                 place,
-                Tag::Reconcile,
+                tag,
                 &[user, high, low],
                 &[quantity.0.cast_unsigned()],
             )
@@ -83,7 +84,7 @@ fn write_event(event: Event, buffer: &mut [u8], place: usize) -> Result<usize, R
             write_field(
                 buffer,
                 place,
-                Tag::Opening,
+                tag,
                 &[users, d0, d1, d2, d3],
                 &averages.map(|average| average.0),
             )
