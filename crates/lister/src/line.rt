@@ -23,9 +23,7 @@ impl fmt::Display for Line {
     fn fmt<W: fmt::Write>(&self, f: &mut fmt::Formatter<W>) -> fmt::Result {
         match self {
             Line::Read { place, event } => write!(f, "{place} {event}"),
-            Line::Refused { fault, place } => {
-                write!(f, "refused {} at {place}", fault.number())
-            }
+            Line::Refused { fault, place } => { write!(f, "refused {} at {place}", fault.number()) }
             Line::Total { events, bytes } => write!(f, "{events} events {bytes} bytes"),
         }
     }

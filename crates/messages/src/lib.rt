@@ -1,4 +1,4 @@
-// The messages of the settlement unit: a reader over borrowed bytes and a writer into a lent buffer.
+// The messages of the settlement unit: a reader over borrowed bytes, a writer into a lent buffer, and how an event is printed.
 #![tactic(auto)]
 
 pub mod event;
