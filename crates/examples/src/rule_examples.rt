@@ -1,4 +1,5 @@
 use amounts::amount::{Kwh, Price};
+use amounts::fault::Fault;
 use amounts::layer::Layer;
 use amounts::wire::WirePrice;
 use rules::any_rule::{Spread, Unshared, apportion, spread_of};

@@ -1,8 +1,8 @@
 -- Parts of an amount that fits 64 bits fit 64 bits.
 use Rattle.std.proofs.Common.{◌≡◌, ℕ, zero, suc, ◌-◌, ◌<◌, ◌≤◌, List, get_or, ℤ, pos, negsuc, ◌+ℤ◌, ◌-ℤ◌, ◌*ℤ◌, nat_abs, ◌≤ℤ◌, sum, sym, refl, ap, ◌∙◌, subst, arith, w64, SFits, to_z, of_z}
 use lib.Signed.{mag}
-use Rattle.std.specs.List.{AllByRecursion}
-use Rattle.std.proofs.ByRecursion.{All-from_get_or}
+use Rattle.std.specs.List.{All}
+use Rattle.std.proofs.lemmas.List.Elements.{All-from_get_or}
 use Rattle.std.proofs.lemmas.Int.{ints, by_lt_z, to_z-of_z}
 use Rattle.std.proofs.lemmas.List.Sums.{get_or-le-sum_by}
 use Rattle.amounts.proofs.Products.{times_zero, times_le}
@@ -59,7 +59,7 @@ pub cut_toward : (amount : ℤ) (t p : ℕ) → p ≤ t → Toward amount (cut a
 cut_toward amount t p l = toward_part amount (cut amount t) (cut_cuts amount t) t p l (cut_whole_toward amount t)
 
 -- each weight's multiple of the rate
-pub shares_fit : (amount : ℤ) (ws : List ℕ) → SFits w64 amount → AllByRecursion (λ w. SFits w64 (truncated amount (sum ws) *ℤ pos w)) ws
+pub shares_fit : (amount : ℤ) (ws : List ℕ) → SFits w64 amount → All (λ w. SFits w64 (truncated amount (sum ws) *ℤ pos w)) ws
 shares_fit amount ws f =
     All-from_get_or (λ w. SFits w64 (truncated amount (sum ws) *ℤ pos w)) ws 0
     (λ i l. toward_fits amount (truncated amount (sum ws) *ℤ pos (get_or ws i 0)) f (rate_toward amount (sum ws) (get_or ws i 0) (get_or-le-sum_by (λ x. x) ws i 0 l)))

@@ -1,17 +1,17 @@
 -- The questions that are put to every rule, told by what they ask.
 use Rattle.std.proofs.Common.{◌≡◌, ℕ, ◌≤◌, Bool, true, false, cond, eqb, leb, List, length, ℤ, Ok, Err, sum, Result, sym, refl, ap, ◌∙◌, subst, inl, inr, arith}
-use Rattle.std.specs.List.{AllByRecursion, list_all}
+use Rattle.std.specs.List.{All, list_all}
 use Rattle.std.proofs.lemmas.Bool.{and_parts, and_from, and_left, and_right, leb-true, eq-eqb, eqb-true, cases_Bool, cond-true, cond-false}
-use Rattle.std.proofs.ByRecursion.{All-weaker, sum_by_le}
+use Rattle.std.proofs.lemmas.List.Elements.{All-weaker}
+use Rattle.std.proofs.lemmas.List.Sums.{sum_by-le, AllPass-from_list_all, list_all-from_AllPass}
 use Rattle.rules.specs.Sharing.{is_weight, is_weight_count, are_weights, is_sharing_question, Shared, shared}
 use Rattle.rules.specs.declared.fault.RuleFault.{RuleFault}
 use Rattle.rules.specs.declared.fault.RuleFault.TheVariants.{QuestionOutOfLimit}
-use Rattle.rules.specs.Passes.{each_passes, pass_all}
 
-pub sharing_asked : (ws : List ℕ) (places : ℕ) → is_weight_count (length ws) ≡ true → AllByRecursion (λ w. is_weight w ≡ true) ws → places ≡ length ws → is_sharing_question ws places ≡ true
+pub sharing_asked : (ws : List ℕ) (places : ℕ) → is_weight_count (length ws) ≡ true → All (λ w. is_weight w ≡ true) ws → places ≡ length ws → is_sharing_question ws places ≡ true
 sharing_asked ws places count each same =
     and_from (are_weights ws) (eqb places (length ws))
-    (and_from (is_weight_count (length ws)) (list_all is_weight ws) count (pass_all is_weight ws each))
+    (and_from (is_weight_count (length ws)) (list_all is_weight ws) count (list_all-from_AllPass is_weight ws each))
     (eq-eqb places (length ws) same)
 
 pub sharing_refused : (ws : List ℕ) (places : ℕ) → list_all is_weight ws ≡ false → is_sharing_question ws places ≡ false
@@ -22,15 +22,15 @@ sharing_refused ws places e =
 pub record Weights (ws : List ℕ) : Type 0 where
   pub some : 1 ≤ length ws
   pub few : length ws ≤ 32
-  pub each : AllByRecursion (λ w. is_weight w ≡ true) ws
+  pub each : All (λ w. is_weight w ≡ true) ws
   pub total : sum ws ≤ 64000000
 
 pub weights_told : (ws : List ℕ) → are_weights ws ≡ true → Weights ws
 weights_told ws e =
     let p = and_parts (is_weight_count (length ws)) (list_all is_weight ws) e in
     let q = and_parts (leb 1 (length ws)) (leb (length ws) 32) p.0 in
-    let each = each_passes is_weight ws p.1 in
-    let bound = sum_by_le (λ x. x) 2000000 ws (All-weaker (λ w. is_weight w ≡ true) (λ w. w ≤ 2000000) (λ w h. leb-true w 2000000 h) ws each) in
+    let each = AllPass-from_list_all is_weight ws p.1 in
+    let bound = sum_by-le (λ x. x) 2000000 ws (All-weaker (λ w. is_weight w ≡ true) (λ w. w ≤ 2000000) (λ w h. leb-true w 2000000 h) ws each) in
     let few = leb-true (length ws) 32 q.1 in
     record {
       some = leb-true 1 (length ws) q.0;

@@ -1,6 +1,6 @@
 -- What holds of the answers of every rule, in words that name no rule. Assumes nothing.
 use Rattle.std.specs.Prelude.{◌≡◌, ℕ, ◌-◌, ◌<◌, ◌≤◌, Bool, true, false, cond, List, length, ℤ, pos, ◌+ℤ◌, ◌-ℤ◌, ◌≤ℤ◌, Ok, Err, sum, Result, ◌==◌, slice_index, slice_index_or, unsigned_abs}
-use Rattle.std.specs.List.{AllByRecursion}
+use Rattle.std.specs.List.{All}
 use Rattle.amounts.specs.Sums.{sum_z}
 use Rattle.rules.specs.Prices.{Prices}
 use Rattle.rules.specs.declared.any_rule.Unshared.{Unshared}
@@ -41,9 +41,9 @@ pub record SharedByTheLaws (amount : ℤ) (weights : List ℕ) (margin : ℕ) (s
   pub each_has_one : length shares ≡ length weights
   pub adds_up : sum_z shares +ℤ remainder ≡ amount
   pub none_for_weight_zero : (k : ℕ) → k < length weights → slice_index weights k ≡ 0 → slice_index_or shares k (pos 0) ≡ pos 0
-  pub none_of_amount_zero : amount ≡ pos 0 → AllByRecursion (λ share. share ≡ pos 0) shares
-  pub none_below_zero : pos 0 ≤ℤ amount → AllByRecursion (λ share. pos 0 ≤ℤ share) shares
-  pub none_above_zero : amount ≤ℤ pos 0 → AllByRecursion (λ share. share ≤ℤ pos 0) shares
+  pub none_of_amount_zero : amount ≡ pos 0 → All (λ share. share ≡ pos 0) shares
+  pub none_below_zero : pos 0 ≤ℤ amount → All (λ share. pos 0 ≤ℤ share) shares
+  pub none_above_zero : amount ≤ℤ pos 0 → All (λ share. share ≤ℤ pos 0) shares
   pub all_remains : sum weights ≡ 0 → remainder ≡ amount
   pub remainder_within_margin : 0 < sum weights → unsigned_abs remainder ≤ margin
   pub margin_below_total : 0 < sum weights → margin ≤ sum weights - 1

@@ -1,7 +1,8 @@
 -- What both sharing rules have from being differences of one function of the weights so far.
 use Rattle.std.specs.Prelude.{◌≡◌, ℕ, zero, suc, ◌+◌, ◌<◌, ◌≤◌, List, [], ◌∷◌, ◌++◌, map, length, take, ℤ, pos, ◌+ℤ◌, ◌-ℤ◌, ◌*ℤ◌, ◌≤ℤ◌, sum, slice_index, slice_index_or, slice_set, refl}
 use Rattle.std.proofs.Common.{sym, ap, ◌∙◌, arith, add_assoc, add-zero, zero-add}
-use Rattle.std.specs.List.{AllByRecursion}
+use Rattle.std.specs.List.{All}
+use Rattle.std.proofs.lemmas.List.Elements.{All-nil, All-cons}
 use Rattle.std.proofs.lemmas.List.{take_more, take_more_set}
 use Rattle.std.proofs.lemmas.Int.{ints}
 use Rattle.std.proofs.lemmas.List.Sums.{sum_by-cons}
@@ -40,21 +41,11 @@ Rising f = (p q : ℕ) → p ≤ q → f p ≤ℤ f q
 abbrev pub Falling : (ℕ → ℤ) → Type 0
 Falling f = (p q : ℕ) → p ≤ q → f q ≤ℤ f p
 
-pub rising_differences : (f : ℕ → ℤ) → Rising f → (p : ℕ) (ws : List ℕ) → AllByRecursion (λ x. pos 0 ≤ℤ x) (differences f p ws)
-rising_differences f up p [] = tt
-rising_differences f up p (w ∷ ws) =
-    let h = up p (p + w) (omega arith) in
-    (omega (arith, ints, h), rising_differences f up (p + w) ws)
-
-pub falling_differences : (f : ℕ → ℤ) → Falling f → (p : ℕ) (ws : List ℕ) → AllByRecursion (λ x. x ≤ℤ pos 0) (differences f p ws)
-falling_differences f down p [] = tt
-falling_differences f down p (w ∷ ws) =
-    let h = down p (p + w) (omega arith) in
-    (omega (arith, ints, h), falling_differences f down (p + w) ws)
-
-pub all_zero : (xs : List ℤ) → AllByRecursion (λ x. pos 0 ≤ℤ x) xs → AllByRecursion (λ x. x ≤ℤ pos 0) xs → AllByRecursion (λ x. x ≡ pos 0) xs
-all_zero [] a b = tt
-all_zero (x ∷ xs) a b = let h = a.0 in let k = b.0 in (omega (arith, ints, h, k), all_zero xs a.1 b.1)
+-- what holds of the function's every step holds of the differences
+pub each_difference : (P : ℤ → Type 0) (f : ℕ → ℤ) → ((p q : ℕ) → p ≤ q → P (f q -ℤ f p)) → (p : ℕ) (ws : List ℕ) → All P (differences f p ws)
+each_difference P f step p [] = All-nil P
+each_difference P f step p (w ∷ ws) =
+    All-cons P (f (p + w) -ℤ f p) (differences f (p + w) ws) (step p (p + w) (omega arith)) (each_difference P f step (p + w) ws)
 
 -- a share in proportion to each weight is a difference too
 pub in_proportion : (r : ℤ) (p : ℕ) (ws : List ℕ) → map (λ w. r *ℤ pos w) ws ≡ differences (λ q. r *ℤ pos q) p ws
@@ -75,14 +66,20 @@ adds_up amount f c ws =
     let e : f (0 + sum ws) ≡ f (sum ws) = ap f (zero-add (sum ws)) in
     omega (arith, ints, sum_differences f 0 ws, c.start)
 
-pub none_across_zero : (amount : ℤ) (f : ℕ → ℤ) → Cuts amount f → (ws : List ℕ) → (pos 0 ≤ℤ amount → AllByRecursion (λ x. pos 0 ≤ℤ x) (differences f 0 ws)) × (amount ≤ℤ pos 0 → AllByRecursion (λ x. x ≤ℤ pos 0) (differences f 0 ws))
-none_across_zero amount f c ws =
-    ((λ h. rising_differences f (c.up h) 0 ws), (λ h. falling_differences f (c.down h) 0 ws))
+pub none_across_zero : (amount : ℤ) (f : ℕ → ℤ) → Cuts amount f → (ws : List ℕ) → (pos 0 ≤ℤ amount → All (λ x. pos 0 ≤ℤ x) (differences f 0 ws)) × (amount ≤ℤ pos 0 → All (λ x. x ≤ℤ pos 0) (differences f 0 ws))
+none_across_zero amount f c ws = (
+  (λ h. each_difference (λ x. pos 0 ≤ℤ x) f (λ p q l. let m = c.up h p q l in omega (arith, ints, m)) 0 ws),
+  (λ h. each_difference (λ x. x ≤ℤ pos 0) f (λ p q l. let m = c.down h p q l in omega (arith, ints, m)) 0 ws),
+)
 
-pub none_of_zero : (f : ℕ → ℤ) → Cuts (pos 0) f → (ws : List ℕ) → AllByRecursion (λ x. x ≡ pos 0) (differences f 0 ws)
+pub none_of_zero : (f : ℕ → ℤ) → Cuts (pos 0) f → (ws : List ℕ) → All (λ x. x ≡ pos 0) (differences f 0 ws)
 none_of_zero f c ws =
-    let n = none_across_zero (pos 0) f c ws in
-    all_zero (differences f 0 ws) (n.0 (omega (arith, ints))) (n.1 (omega (arith, ints)))
+    each_difference (λ x. x ≡ pos 0) f
+    (λ p q l.
+    let up = c.up (omega (arith, ints)) p q l in
+    let down = c.down (omega (arith, ints)) p q l in
+    omega (arith, ints, up, down))
+    0 ws
 
 pub all_remains : (amount : ℤ) (f : ℕ → ℤ) → Cuts amount f → (ws : List ℕ) → sum ws ≡ 0 → amount -ℤ f (sum ws) ≡ amount
 all_remains amount f c ws z =

@@ -1,6 +1,6 @@
 -- Worked figures of the rules. Assumes nothing.
 use Rattle.std.specs.Prelude.{◌≡◌, ℕ, List, [], ◌∷◌, ℤ, pos, negsuc}
-use Rattle.std.specs.List.{AllByRecursion}
+use Rattle.std.specs.List.{All}
 use Rattle.rules.specs.Prices.{Counted, Preceding, Prices}
 use Rattle.rules.specs.PriceRules.{marginal, marginal_average}
 use Rattle.rules.specs.SharingRules.{unit_shares, unit_remainder, running_shares, running_remainder}
@@ -51,4 +51,4 @@ figures =
     ∷ []
 
 abbrev pub AllFiguresHold : Type 0
-AllFiguresHold = AllByRecursion Holds figures
+AllFiguresHold = All Holds figures

@@ -13,4 +13,4 @@ pub mod TalliesLemmas
 pub mod Passes
 pub mod Differences
 pub mod Truncated
-pub mod UnitRuleSharingLemmas
+pub mod UnitShares

@@ -57,6 +57,12 @@ cut_whole amount t h = by_sign (λ z. cut z t t ≡ z)
     (λ a. cut_neg a t t h ∙ ap (λ (n : ℕ). neg_ℤ (pos n)) (mul-div_cancel a h))
     amount
 
+-- where there is a weight, the whole cut leaves nothing
+pub nothing_remains : (amount : ℤ) (t : ℕ) → 0 < t → unsigned_abs (amount -ℤ cut amount t t) ≤ 0
+nothing_remains amount t h =
+    let e : amount -ℤ cut amount t t ≡ pos 0 = omega (arith, ints, cut_whole amount t h) in
+    omega (arith, ap unsigned_abs e)
+
 rising_pos : (a t : ℕ) → Rising (cut (pos a) t)
 rising_pos a zero p q l = omega (arith, ints)
 rising_pos a (suc t) p q l =

@@ -1,30 +1,28 @@
 // What a rule refuses: to be made of a price out of its limits, and to be asked with a list or figure out of its limits.
-ghost use Rattle.std.specs.Prelude.{◌≡◌};
-ghost use Rattle.rules.specs.Faults.{number, layer};
+ghost use Rattle.rules.specs.Faults.{number, told_by_number};
+ghost use Rattle.amounts.specs.declared.layer.Layer.{Layer};
 
+use amounts::fault::Fault;
 use amounts::layer::Layer;
 
 #[derive(Clone, Copy, Debug, PartialEq, Eq)]
 pub enum RuleFault {
     // A price that a rule is made of is out of its limits.
-    PriceOutOfLimit,
+    PriceOutOfLimit = 11,
     // A list or a figure of a question to a rule is out of its limits.
-    QuestionOutOfLimit,
+    QuestionOutOfLimit = 50,
 }
 
-impl RuleFault {
-    pub fn number(&self) -> u8
-        ensures { result ≡ number self.now }
-    {
-        match self {
-            RuleFault::PriceOutOfLimit => 11,
-            RuleFault::QuestionOutOfLimit => 50,
-        }
-    }
+impl Fault for RuleFault {
+    ghost REFUSED_BY = { Layer.Rule };
 
-    pub fn layer(&self) -> Layer
-        ensures { result ≡ layer self.now }
-    {
-        Layer::Rule
+    ghost number = { number };
+
+    ghost tells_apart = { told_by_number };
+
+    const REFUSED_BY: Layer = Layer::Rule;
+
+    fn number(&self) -> u8 {
+        *self as u8
     }
 }

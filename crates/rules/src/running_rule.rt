@@ -1,15 +1,14 @@
 // The running rule: what the weights so far have together is rounded toward zero, and each share is what its weight adds.
-ghost use Rattle.std.specs.Prelude.{◌≡◌, ◌<◌, ◌≤◌, length, ℤ, pos, ◌+ℤ◌, ◌-ℤ◌, ◌*ℤ◌, Ok, sum, FitsSigned, unsigned_abs};
-ghost use Rattle.std.proofs.Common.{ap, arith, rules};
+ghost use Rattle.std.specs.Prelude.{◌≡◌, ◌<◌, ◌≤◌, length, ℤ, pos, ◌+ℤ◌, ◌-ℤ◌, ◌*ℤ◌, Ok, sum, FitsSigned};
+ghost use Rattle.std.proofs.Common.{rules};
 ghost use Rattle.std.specs.Int.{w64};
 ghost use Rattle.rules.specs.Sharing.{Shared, shared, is_sharing_question};
 ghost use Rattle.rules.specs.SharingRules.{truncated, cut, differences, running_shares, running_remainder, running_margin, PrefixSumsTruncated};
 ghost use Rattle.rules.specs.Differences.{length_differences, adds_up, zero_difference, none_of_zero, none_across_zero, all_remains};
-ghost use Rattle.rules.specs.Truncated.{cut_cuts, cut_whole};
-ghost use Rattle.std.proofs.lemmas.Int.{ints};
+ghost use Rattle.rules.specs.Truncated.{cut_cuts, nothing_remains};
 
 use crate::fault::RuleFault;
-use crate::parts::{rest_of, times, truncated_quotient, write_share};
+use crate::parts::{rest_of, truncated_quotient};
 use crate::sharing_rule::SharingRule;
 use crate::weights::total_weight;
 
@@ -36,9 +35,7 @@ impl SharingRule for RunningRule {
 
     ghost all_remains_without_weight = { λ rule amount ws h z. all_remains amount (cut amount (sum ws)) (cut_cuts amount (sum ws)) ws z };
 
-    ghost remainder_within_margin = { λ rule amount ws h some.
-        let e : amount -ℤ cut amount (sum ws) (sum ws) ≡ pos 0 = omega (arith, ints, cut_whole amount (sum ws) some) in
-        omega (arith, ap unsigned_abs e) };
+    ghost remainder_within_margin = { λ rule amount ws h. nothing_remains amount (sum ws) };
 
     ghost margin_below_total = { Prim.search rules };
 
@@ -59,7 +56,8 @@ fn cut_at(quotient: i64, rest: i64, total: u32, so_far: u32) -> i64
     requires both { FitsSigned w64 (quotient *ℤ pos so_far +ℤ truncated (rest *ℤ pos so_far) total) }
     ensures { result ≡ quotient *ℤ pos so_far +ℤ truncated (rest *ℤ pos so_far) total }
 {
-    times(quotient, so_far) + truncated_quotient(times(rest, so_far), total)
+    let so_far = i64::from(so_far);
+    quotient * so_far + truncated_quotient(rest * so_far, total)
 }
 
 // Writes what each weight adds to the cut, and answers the last cut.
@@ -77,16 +75,8 @@ fn write_differences(amount: i64, total: u32, weights: &[u32], into: &mut [i64])
     for (i, weight) in weights.iter().enumerate() {
         so_far += *weight;
         let reached = cut_at(quotient, rest, total, so_far);
-        write_share(into, i, gap(before, reached));
+        into[i] = reached - before;
         before = reached;
     }
     before
-}
-
-// What a weight adds to the cut.
-fn gap(before: i64, reached: i64) -> i64
-    requires { FitsSigned w64 (reached -ℤ before) }
-    ensures { result ≡ reached -ℤ before }
-{
-    reached - before
 }

@@ -1,6 +1,6 @@
 // What a sharing rule is.
 ghost use Rattle.std.specs.Prelude.{◌≡◌, ℕ, ◌-◌, ◌<◌, ◌≤◌, List, length, ℤ, pos, ◌+ℤ◌, ◌≤ℤ◌, sum, slice_index, slice_index_or, unsigned_abs};
-ghost use Rattle.std.specs.List.{AllByRecursion};
+ghost use Rattle.std.specs.List.{All};
 ghost use Rattle.amounts.specs.Sums.{sum_z};
 ghost use Rattle.rules.specs.Sharing.{Shareable, Shared, shared, is_sharing_question};
 
@@ -25,9 +25,9 @@ pub trait SharingRule {
 
     ghost weight_zero_has_share_zero: { (rule : Self) (amount : ℤ) (weights : List ℕ) → Shareable amount weights → (k : ℕ) → k < length weights → slice_index weights k ≡ 0 → slice_index_or (shares rule amount weights) k (pos 0) ≡ pos 0 };
 
-    ghost amount_zero_has_shares_zero: { (rule : Self) (weights : List ℕ) → Shareable (pos 0) weights → AllByRecursion (λ share. share ≡ pos 0) (shares rule (pos 0) weights) };
+    ghost amount_zero_has_shares_zero: { (rule : Self) (weights : List ℕ) → Shareable (pos 0) weights → All (λ share. share ≡ pos 0) (shares rule (pos 0) weights) };
 
-    ghost no_share_across_zero: { (rule : Self) (amount : ℤ) (weights : List ℕ) → Shareable amount weights → (pos 0 ≤ℤ amount → AllByRecursion (λ share. pos 0 ≤ℤ share) (shares rule amount weights)) × (amount ≤ℤ pos 0 → AllByRecursion (λ share. share ≤ℤ pos 0) (shares rule amount weights)) };
+    ghost no_share_across_zero: { (rule : Self) (amount : ℤ) (weights : List ℕ) → Shareable amount weights → (pos 0 ≤ℤ amount → All (λ share. pos 0 ≤ℤ share) (shares rule amount weights)) × (amount ≤ℤ pos 0 → All (λ share. share ≤ℤ pos 0) (shares rule amount weights)) };
 
     ghost all_remains_without_weight: { (rule : Self) (amount : ℤ) (weights : List ℕ) → Shareable amount weights → sum weights ≡ 0 → remainder rule amount weights ≡ amount };
 

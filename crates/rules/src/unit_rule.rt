@@ -1,18 +1,17 @@
 // The unit rule: one rate for each unit of weight.
 ghost use Rattle.std.specs.Prelude.{◌≡◌, ◌<◌, map, length, ℤ, pos, ◌*ℤ◌, Ok, sum, FitsSigned};
-ghost use Rattle.std.proofs.Common.{sym, subst, arith, rules};
+ghost use Rattle.std.proofs.Common.{rules};
 ghost use Rattle.std.specs.Int.{w64};
-ghost use Rattle.std.specs.List.{AllByRecursion};
+ghost use Rattle.std.specs.List.{All};
 ghost use Rattle.rules.specs.Sharing.{Shared, shared, is_sharing_question};
-ghost use Rattle.rules.specs.SharingRules.{unit_shares, unit_remainder, unit_margin, InProportion};
+ghost use Rattle.rules.specs.SharingRules.{rate, unit_shares, unit_remainder, unit_margin, InProportion};
 ghost use Rattle.std.proofs.lemmas.List.{length-map};
-ghost use Rattle.rules.specs.SharingRules;
-ghost use Rattle.rules.specs.Differences.{adds_up, zero_difference, none_of_zero, none_across_zero, all_remains};
-ghost use Rattle.rules.specs.Truncated.{rate_cuts, rest_small};
-ghost use Rattle.rules.specs.UnitRuleSharingLemmas.{as_differences};
+ghost use Rattle.rules.specs.Differences.{all_remains};
+ghost use Rattle.rules.specs.Truncated.{rate_cuts};
+ghost use Rattle.rules.specs.UnitShares.{shares_add_up, none_for_zero, zero_shared, shares_on_one_side, remainder_small};
 
 use crate::fault::RuleFault;
-use crate::parts::{rest_of, times, truncated_quotient, write_share};
+use crate::parts::{rest_of, truncated_quotient};
 use crate::sharing_rule::SharingRule;
 use crate::weights::total_weight;
 
@@ -27,19 +26,19 @@ impl SharingRule for UnitRule {
 
     ghost margin = { λ _. unit_margin };
 
-    ghost a_share_for_each_weight = { λ rule amount ws h. length-map ws (λ w. SharingRules.rate amount ws *ℤ pos w) };
+    ghost a_share_for_each_weight = { λ rule amount ws h. length-map ws (λ w. rate amount ws *ℤ pos w) };
 
-    ghost shares_and_remainder_add_up = { λ rule amount ws h. rw (as_differences amount ws) (adds_up amount (λ p. SharingRules.rate amount ws *ℤ pos p) (rate_cuts amount (sum ws)) ws) };
+    ghost shares_and_remainder_add_up = { λ rule amount ws h. shares_add_up amount ws };
 
-    ghost weight_zero_has_share_zero = { λ rule amount ws h k l e. rw (as_differences amount ws) (zero_difference (λ p. SharingRules.rate amount ws *ℤ pos p) 0 ws k l e) };
+    ghost weight_zero_has_share_zero = { λ rule amount ws h. none_for_zero amount ws };
 
-    ghost amount_zero_has_shares_zero = { λ rule ws h. subst (AllByRecursion (λ x. x ≡ pos 0)) (sym (as_differences (pos 0) ws)) (none_of_zero (λ p. SharingRules.rate (pos 0) ws *ℤ pos p) (rate_cuts (pos 0) (sum ws)) ws) };
+    ghost amount_zero_has_shares_zero = { λ rule ws h. zero_shared ws };
 
-    ghost no_share_across_zero = { λ rule amount ws h. rw (as_differences amount ws) (none_across_zero amount (λ p. SharingRules.rate amount ws *ℤ pos p) (rate_cuts amount (sum ws)) ws) };
+    ghost no_share_across_zero = { λ rule amount ws h. shares_on_one_side amount ws };
 
-    ghost all_remains_without_weight = { λ rule amount ws h z. all_remains amount (λ p. SharingRules.rate amount ws *ℤ pos p) (rate_cuts amount (sum ws)) ws z };
+    ghost all_remains_without_weight = { λ rule amount ws h. all_remains amount (λ p. rate amount ws *ℤ pos p) (rate_cuts amount (sum ws)) ws };
 
-    ghost remainder_within_margin = { λ rule amount ws h some. omega (arith, rest_small amount (sum ws) some) };
+    ghost remainder_within_margin = { λ rule amount ws h. remainder_small amount ws };
 
     ghost margin_below_total = { Prim.search rules };
 
@@ -57,10 +56,10 @@ impl SharingRule for UnitRule {
 // Writes the rate times each weight.
 fn write_multiples(rate: i64, weights: &[u32], into: &mut [i64])
     requires same { length into.old ≡ length weights.now }
-    requires fit { AllByRecursion (λ weight. FitsSigned w64 (rate *ℤ pos weight)) weights.now }
+    requires fit { All (λ weight. FitsSigned w64 (rate *ℤ pos weight)) weights.now }
     ensures { into.new ≡ map (λ weight. rate *ℤ pos weight) weights.now }
 {
     for (i, weight) in weights.iter().enumerate() {
-        write_share(into, i, times(rate, *weight));
+        into[i] = rate * i64::from(*weight);
     }
 }

@@ -1,5 +1,5 @@
 use Rattle.std.proofs.Common.{◌≡◌, ℕ, ◌<◌, Bool, true, eqb, List, length, ℤ, pos, negsuc, nat_abs, Ok, sum, sym, ap, ◌∙◌, subst, arith, w64, SFits, to_z, of_z, rules}
-use Rattle.std.specs.List.{AllByRecursion}
+use Rattle.std.specs.List.{All}
 use Rattle.std.proofs.lemmas.Int.{ints, to_z-of_z}
 use Rattle.std.proofs.lemmas.Bool.{and_parts}
 use Rattle.amounts.proofs.Within.{between_yes}
@@ -67,7 +67,7 @@ returns g c =
       each_has_one = g.met.S.SharingRule.a_share_for_each_weight rule amount ws h;
       adds_up = g.met.S.SharingRule.shares_and_remainder_add_up rule amount ws h;
       none_for_weight_zero = g.met.S.SharingRule.weight_zero_has_share_zero rule amount ws h;
-      none_of_amount_zero = λ z. subst (λ a. AllByRecursion (λ x. x ≡ pos 0) (g.S.SharingRule.shares rule a ws)) (sym z) (g.met.S.SharingRule.amount_zero_has_shares_zero rule ws (subst (λ a. Shareable a ws) z h));
+      none_of_amount_zero = λ z. subst (λ a. All (λ x. x ≡ pos 0) (g.S.SharingRule.shares rule a ws)) (sym z) (g.met.S.SharingRule.amount_zero_has_shares_zero rule ws (subst (λ a. Shareable a ws) z h));
       none_below_zero = (g.met.S.SharingRule.no_share_across_zero rule amount ws h).0;
       none_above_zero = (g.met.S.SharingRule.no_share_across_zero rule amount ws h).1;
       all_remains = g.met.S.SharingRule.all_remains_without_weight rule amount ws h;

@@ -1,26 +1,15 @@
-use Rattle.std.proofs.Common.{◌≡◌, ℕ, ◌+◌, ◌<◌, ◌≤◌, List, length, get_or, take, ℤ, pos, ◌+ℤ◌, ◌-ℤ◌, ◌*ℤ◌, sum, sym, refl, ap, ◌∙◌, subst, arith, w64, SFits, to_z, of_z}
+use Rattle.std.proofs.Common.{◌≡◌, ℕ, ◌+◌, ◌<◌, ◌≤◌, List, length, get_or, take, ℤ, pos, ◌+ℤ◌, ◌-ℤ◌, ◌*ℤ◌, sum, sym, ap, ◌∙◌, subst, arith, w64, SFits, to_z, of_z}
 use lib.Signed.{mag}
-use Rattle.std.proofs.lemmas.List.{take_all}
 use Rattle.std.proofs.lemmas.Int.{to_z-of_z}
 use Rattle.std.proofs.lemmas.List.Sums.{sum_by_more, sum_by-take-le}
 use Rattle.rules.specs.SharingRules.{truncated, cut, differences}
 use Rattle.rules.specs.Differences.{differences_more, written_more}
-use Rattle.rules.proofs.Fits.{passed, passed_rate, passed_rest, rate_passed, passed_difference, difference_fits, fits_as, cut_by}
-use Rattle.rules.specs.Truncated.{cut_start}
+use Rattle.rules.proofs.Fits.{passed, passed_rate, passed_rest, passed_difference, difference_fits, fits_as, cut_by}
 use Rattle.rules.proofs.running_rule.write_differences.Goals as goal
-
-pub rest_of-rest-requires : goal.rest_of-rest-requires
-rest_of-rest-requires c =
-    rate_passed c.args.amount c.truncated_quotient-quotient.result c.args.total c.truncated_quotient-quotient.type_inv c.truncated_quotient-quotient.ensures
 
 -- the weights up to the next one are a part of all
 next_part : (ws : List ℕ) (i so_far total : ℕ) → i < length ws → so_far ≡ sum (take i ws) → total ≡ sum ws → so_far + get_or ws i 0 ≤ total
 next_part ws i so_far total l e t = omega (arith, sum_by_more (λ x. x) ws i 0 l, sum_by-take-le (λ x. x) ws (i + 1))
-
-pub overflow_add-so_far : goal.overflow_add-so_far
-overflow_add-so_far c =
-    let h = next_part c.args.weights.now c.loop-i.i c.loop-i.so_far c.args.total c.loop-i-test.true c.loop-i.invariant.0 c.requires.whole in
-    omega (arith, h, c.requires.small)
 
 pub cut_at-reached-requires : goal.cut_at-reached-requires
 cut_at-reached-requires c =
@@ -44,17 +33,14 @@ gap_fits : (amount : ℤ) (ws : List ℕ) (i total : ℕ) → SFits w64 amount �
 gap_fits amount ws i total f part =
     difference_fits (to_z w64 (of_z w64 amount)) total (sum (take i ws)) (sum (take i ws) + get_or ws i 0) (subst (SFits w64) (sym (to_z-of_z w64 amount f)) f) (omega arith) part
 
-pub gap-requires : goal.gap-requires
-gap-requires c =
+pub overflow_sub-into : goal.overflow_sub-into
+overflow_sub-into c =
     let ws = c.args.weights.now in
     let i = c.loop-i.i in
     let part = next_part ws i c.loop-i.so_far c.args.total c.loop-i-test.true c.loop-i.invariant.0 c.requires.whole in
     let reached = reached_is c.args.amount c.truncated_quotient-quotient.result c.rest_of-rest.result c.cut_at-reached.result ws i c.loop-i.so_far c.args.total c.ranges.amount part c.requires.small c.loop-i.invariant.0
     c.truncated_quotient-quotient.type_inv c.truncated_quotient-quotient.ensures c.rest_of-rest.type_inv c.rest_of-rest.ensures c.cut_at-reached.type_inv c.cut_at-reached.ensures in
     fits_as reached c.loop-i.invariant.1 (gap_fits c.args.amount ws i c.args.total c.ranges.amount (omega (arith, part, c.loop-i.invariant.0)))
-
-pub loop-i-init : goal.loop-i-init
-loop-i-init c = (refl, sym (cut_start (to_z w64 (of_z w64 c.args.amount)) c.args.total), refl)
 
 pub loop-i-preserved : goal.loop-i-preserved
 loop-i-preserved c =
@@ -70,23 +56,6 @@ loop-i-preserved c =
     let room : i < length c.loop-i.into = omega (arith, l, c.loop-i.auto.into, c.requires.same) in (
       ap (λ (n : ℕ). n + get_or ws i 0) c.loop-i.invariant.0 ∙ sym more,
       reached ∙ ap f (sym more),
-      ap (take (i + 1)) c.write_share.ensures
-          ∙ written_more c.loop-i.into (differences f 0 (take i ws)) i room c.loop-i.invariant.2 (ap (λ z. to_z w64 (of_z w64 z)) c.gap.ensures ∙ passed_difference reached c.loop-i.invariant.1 fits)
+      written_more c.loop-i.into (differences f 0 (take i ws)) i room c.loop-i.invariant.2 (passed_difference reached c.loop-i.invariant.1 fits)
           ∙ sym (differences_more f ws i l),
     )
-
-pub returns : goal.returns
-returns c =
-    let ws = c.args.weights.now in
-    let i = c.loop-i.i in
-    let whole : take i ws ≡ ws = take_all i ws c.loop-i-test.false in
-    let same : to_z w64 (of_z w64 c.args.amount) ≡ c.args.amount = to_z-of_z w64 c.args.amount c.ranges.amount in
-    let f = λ (a : ℤ). cut a c.args.total in
-    record {
-      last = c.loop-i.invariant.1 ∙ ap (λ a. f a (sum (take i ws))) same ∙ ap (λ xs. f c.args.amount (sum xs)) whole ∙ ap (f c.args.amount) (sym c.requires.whole);
-      written =
-          sym (take_all i c.loop-i.into (omega (arith, c.loop-i-test.false, c.loop-i.auto.into, c.requires.same)))
-          ∙ c.loop-i.invariant.2
-          ∙ ap (λ a. differences (f a) 0 (take i ws)) same
-          ∙ ap (differences (f c.args.amount) 0) whole;
-    }

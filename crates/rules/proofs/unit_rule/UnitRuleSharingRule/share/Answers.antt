@@ -1,5 +1,5 @@
 use Rattle.std.proofs.Common.{◌≡◌, ℕ, true, List, map, length, pos, ◌-ℤ◌, ◌*ℤ◌, sum, sym, ap, ◌∙◌, subst, w64, SFits, to_z, of_z}
-use Rattle.std.specs.List.{AllByRecursion}
+use Rattle.std.specs.List.{All}
 use Rattle.rules.specs.Sharing.{is_sharing_question}
 use Rattle.rules.specs.SharingRules.{truncated, rate, unit_shares, unit_remainder}
 use Rattle.rules.proofs.Fits.{shares_fit, passed_rate, passed_rest, rate_passed}
@@ -14,7 +14,7 @@ write_multiples-requires c =
     let r = passed_rate c.args.amount c.truncated_quotient-rate.result c.in_ok-total.total c.ranges.amount c.truncated_quotient-rate.type_inv c.truncated_quotient-rate.ensures ∙ ap (truncated c.args.amount) t.1 in
     record {
       same = (asked_parts ws (length c.args.into.now) t.0).1;
-      fit = subst (λ z. AllByRecursion (λ w. SFits w64 (z *ℤ pos w)) ws) (sym r) (shares_fit c.args.amount ws c.ranges.amount);
+      fit = subst (λ z. All (λ w. SFits w64 (z *ℤ pos w)) ws) (sym r) (shares_fit c.args.amount ws c.ranges.amount);
     }
 
 pub rest_of-requires : goal.rest_of-requires
