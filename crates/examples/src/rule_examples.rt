@@ -5,7 +5,7 @@ use amounts::wire::WirePrice;
 use rules::any_rule::{Spread, Unshared, apportion, spread_of};
 use rules::fault::RuleFault;
 use rules::marginal_rule::MarginalRule;
-use rules::price_rule::{CountedAction, PriceRule};
+use rules::price_rule::{CountedAction, DayPrices, PriceRule};
 use rules::quoted_rule::QuotedRule;
 use rules::running_rule::RunningRule;
 use rules::sharing_rule::SharingRule;
@@ -25,6 +25,14 @@ fn action(quantity: i64, price: i64) -> CountedAction {
 fn averages(last: i64) -> [Price; 7] {
     let usual = Price(20_000);
     [usual, usual, usual, usual, usual, usual, Price(last)]
+}
+
+fn prices_of(average: i64, buy: i64, sell: i64) -> DayPrices {
+    DayPrices {
+        average: Price(average),
+        buy: Price(buy),
+        sell: Price(sell),
+    }
 }
 
 // Two actions, and a single one, by the marginal rule; and none, where the mean of the seven preceding averages is taken.
@@ -47,16 +55,16 @@ fn marginal_prices(rt: HostRuntime) {
     ] {
         let counted = [action(first.0, first.1), action(second.0, second.1)];
         let prices = MarginalRule::new(Price(default)).prices(&counted, &averages(0));
-        assert_eq!(rt; prices, Ok((Price(average), Price(buy), Price(sell))));
+        assert_eq!(rt; prices, Ok(prices_of(average, buy, sell)));
     }
     let rule = MarginalRule::new(Price(100));
     assert_eq!(rt;
         rule.prices(&[], &averages(21_000)),
-        Ok((Price(20_143), Price(20_243), Price(20_043)))
+        Ok(prices_of(20_143, 20_243, 20_043))
     );
     assert_eq!(rt;
         rule.prices(&[action(60, 21_000)], &averages(0)),
-        Ok((Price(21_000), Price(21_100), Price(20_900)))
+        Ok(prices_of(21_000, 21_100, 20_900))
     );
 }
 
@@ -67,13 +75,13 @@ fn most_actions(rt: HostRuntime) {
     let rule = MarginalRule::new(Price(100_000));
     assert_eq!(rt;
         rule.prices(&counted[..32], &averages(0)),
-        Ok((Price(1_000_000), Price(1_100_000), Price(900_000)))
+        Ok(prices_of(1_000_000, 1_100_000, 900_000))
     );
     assert_eq!(rt; rule.prices(&counted, &averages(0)), Err(REFUSED));
     let quoted = QuotedRule::new(Price(7), Price(2));
     assert_eq!(rt;
         quoted.prices(&counted[..32], &averages(0)),
-        Ok((Price(7), Price(9), Price(5)))
+        Ok(prices_of(7, 9, 5))
     );
     assert_eq!(rt; quoted.prices(&counted, &averages(0)), Err(REFUSED));
 }
@@ -139,11 +147,13 @@ fn made_rules(rt: HostRuntime) {
         (-1, 100, refused, 0, 0, 0, 0),
     ] {
         let rule = QuotedRule::new(Price(fixed), Price(default));
+        let tried = QuotedRule::try_new(Price(fixed), Price(default));
+        assert_eq!(rt; tried.is_ok(), check.is_ok());
         assert_eq!(rt; QuotedRule::check(Price(fixed), Price(default)), check);
         assert_eq!(rt; rule.default_price(), Price(made));
         assert_eq!(rt;
             rule.prices(&[], &averages(0)),
-            Ok((Price(average), Price(buy), Price(sell)))
+            Ok(prices_of(average, buy, sell))
         );
     }
     for (default, made, check) in [
@@ -152,6 +162,7 @@ fn made_rules(rt: HostRuntime) {
         (100_001, 0, refused),
         (-1, 0, refused),
     ] {
+        assert_eq!(rt; MarginalRule::try_new(Price(default)).is_ok(), check.is_ok());
         assert_eq!(rt; MarginalRule::check(Price(default)), check);
         assert_eq!(rt;
             MarginalRule::new(Price(default)).default_price(),

@@ -5,7 +5,7 @@ ghost use Rattle.rules.specs.Prices.{is_price_question, Within};
 ghost use Rattle.rules.specs.Sharing.{is_sharing_question};
 
 use crate::fault::RuleFault;
-use crate::price_rule::{CountedAction, PriceRule};
+use crate::price_rule::{CountedAction, DayPrices, PriceRule};
 use crate::sharing_rule::SharingRule;
 use crate::weights::total_weight;
 use amounts::amount::Price;
@@ -37,7 +37,7 @@ pub fn spread_of<P: PriceRule>(
 ) -> Result<Spread, RuleFault>
     ensures { SpreadAnswer (is_price_question counted.now preceding.now) (P.PriceRule.default rule.now) (P.PriceRule.prices rule.now counted.now preceding.now) result }
 {
-    let (average, buy, sell) = rule.prices(counted, preceding)?;
+    let DayPrices { average, buy, sell } = rule.prices(counted, preceding)?;
     Ok(Spread {
         default: distance(Price(0), rule.default_price()),
         average: distance(Price(0), average),

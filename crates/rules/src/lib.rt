@@ -4,6 +4,7 @@
 pub mod any_rule;
 pub mod fault;
 pub mod figures;
+mod limited_price;
 pub mod marginal_rule;
 mod parts;
 pub mod price_rule;

@@ -18,6 +18,14 @@ pub struct CountedAction {
     pub price: Price,
 }
 
+// System Average, Marginal Buy and Marginal Sell Price of a Day.
+#[derive(Clone, Copy, Debug, PartialEq, Eq)]
+pub struct DayPrices {
+    pub average: Price,
+    pub buy: Price,
+    pub sell: Price,
+}
+
 // A rule means its default price, and the three prices as a function of what it is asked: so equal questions get equal
 // answers.
 pub trait PriceRule {
@@ -29,13 +37,9 @@ pub trait PriceRule {
     fn default_price(&self) -> Price
         ensures { result ≡ record { 0 = default self.now } };
 
-    // System Average, Marginal Buy and Marginal Sell Price, from the counted actions and the seven preceding averages, oldest
-    // first; refused exactly where a list or a figure is out of its limits.
-    fn prices(
-        &self,
-        counted: &[CountedAction],
-        preceding: &[Price],
-    ) -> Result<(Price, Price, Price), RuleFault>
+    // The prices, from the counted actions and the seven preceding averages, oldest first; refused exactly where a list or a
+    // figure is out of its limits.
+    fn prices(&self, counted: &[CountedAction], preceding: &[Price]) -> Result<DayPrices, RuleFault>
         ensures value { result ≡ priced (is_price_question counted.now preceding.now) (prices self.now counted.now preceding.now) };
 
     ghost default_within_limit: { (rule : Self) → InDefaultLimit (default rule) };
