@@ -2,11 +2,11 @@
 #![tactic(auto)]
 
 pub mod any_rule;
+mod division;
 pub mod fault;
 pub mod figures;
 mod limited_price;
 pub mod marginal_rule;
-mod parts;
 pub mod price_rule;
 pub mod quoted_rule;
 pub mod running_rule;

@@ -1,14 +1,13 @@
 // The running rule: what the weights so far have together is rounded toward zero, and each share is what its weight adds.
-ghost use Rattle.std.specs.Prelude.{◌≡◌, ◌<◌, ◌≤◌, length, ℤ, pos, ◌+ℤ◌, ◌-ℤ◌, ◌*ℤ◌, Ok, sum, FitsSigned};
+ghost use Rattle.std.specs.Prelude.{◌≡◌, ◌<◌, length, ℤ, pos, Ok, sum};
 ghost use Rattle.std.proofs.Common.{rules};
-ghost use Rattle.std.specs.Int.{w64};
 ghost use Rattle.rules.specs.Sharing.{Shared, shared, is_sharing_question};
-ghost use Rattle.rules.specs.SharingRules.{truncated, cut, differences, running_shares, running_remainder, running_margin, PrefixSumsTruncated};
+ghost use Rattle.rules.specs.SharingRules.{cut, differences, running_shares, running_remainder, running_margin, PrefixSumsTruncated};
 ghost use Rattle.rules.specs.Differences.{length_differences, adds_up, zero_difference, none_of_zero, none_across_zero, all_remains};
 ghost use Rattle.rules.specs.Truncated.{cut_cuts, nothing_remains};
 
+use crate::division::Division;
 use crate::fault::RuleFault;
-use crate::parts::{rest_of, truncated_quotient};
 use crate::sharing_rule::SharingRule;
 use crate::weights::total_weight;
 
@@ -44,37 +43,23 @@ impl SharingRule for RunningRule {
         ensures prefixes { (remainder : ℤ) → result ≡ Ok remainder → 0 < sum weights.now → PrefixSumsTruncated amount weights.now into.new }
     {
         let total = total_weight(weights, into.len())?;
-        let shared = write_differences(amount, total, weights, into);
+        let shared = write_differences(Division::new(amount, total), weights, into);
         Ok(amount - shared)
     }
 }
 
-// What the weights so far have of an amount together, by its quotient and its rest, so that no product leaves 64 bits.
-fn cut_at(quotient: i64, rest: i64, total: u32, so_far: u32) -> i64
-    requires quotient { FitsSigned w64 (quotient *ℤ pos so_far) }
-    requires rest { FitsSigned w64 (rest *ℤ pos so_far) }
-    requires both { FitsSigned w64 (quotient *ℤ pos so_far +ℤ truncated (rest *ℤ pos so_far) total) }
-    ensures { result ≡ quotient *ℤ pos so_far +ℤ truncated (rest *ℤ pos so_far) total }
-{
-    let so_far = i64::from(so_far);
-    quotient * so_far + truncated_quotient(rest * so_far, total)
-}
-
-// Writes what each weight adds to the cut, and answers the last cut.
-fn write_differences(amount: i64, total: u32, weights: &[u32], into: &mut [i64]) -> i64
+// Writes what each weight adds to what the weights so far have together, and answers what all have.
+fn write_differences(division: Division, weights: &[u32], into: &mut [i64]) -> i64
     requires same { length into.old ≡ length weights.now }
-    requires whole { total ≡ sum weights.now }
-    requires small { total ≤ 64000000 }
-    ensures last { result ≡ cut amount total total }
-    ensures written { into.new ≡ differences (cut amount total) 0 weights.now }
+    requires whole { division.total ≡ sum weights.now }
+    ensures last { result ≡ cut division.amount division.total division.total }
+    ensures written { into.new ≡ differences (cut division.amount division.total) 0 weights.now }
 {
-    let quotient = truncated_quotient(amount, total);
-    let rest = rest_of(amount, quotient, total);
     let mut so_far = 0;
     let mut before = 0;
     for (i, weight) in weights.iter().enumerate() {
         so_far += *weight;
-        let reached = cut_at(quotient, rest, total, so_far);
+        let reached = division.up_to(so_far);
         into[i] = reached - before;
         before = reached;
     }

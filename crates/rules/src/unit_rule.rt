@@ -10,8 +10,8 @@ ghost use Rattle.rules.specs.Differences.{all_remains};
 ghost use Rattle.rules.specs.Truncated.{rate_cuts};
 ghost use Rattle.rules.specs.UnitShares.{shares_add_up, none_for_zero, zero_shared, shares_on_one_side, remainder_small};
 
+use crate::division::Division;
 use crate::fault::RuleFault;
-use crate::parts::{rest_of, truncated_quotient};
 use crate::sharing_rule::SharingRule;
 use crate::weights::total_weight;
 
@@ -47,9 +47,9 @@ impl SharingRule for UnitRule {
         ensures proportion { (remainder : ℤ) → result ≡ Ok remainder → 0 < sum weights.now → InProportion amount weights.now into.new }
     {
         let total = total_weight(weights, into.len())?;
-        let rate = truncated_quotient(amount, total);
-        write_multiples(rate, weights, into);
-        Ok(rest_of(amount, rate, total))
+        let division = Division::new(amount, total);
+        write_multiples(division.rate, weights, into);
+        Ok(division.rest)
     }
 }
 

@@ -20,6 +20,10 @@ returns c =
     let count : is_weight_count (length c.args.weights.now) ≡ true = search rules in
     let each : All (λ w. is_weight w ≡ true) c.args.weights.now = search rules in
     let asked = sharing_asked c.args.weights.now c.args.places count each c.if-places-weights.false in
+    let p = asked_parts c.args.weights.now c.args.places asked in
     let total : c.sum.result ≡ sum c.args.weights.now = search rules in
-    ap Ok total
-    ∙ sym (cond-true (is_sharing_question c.args.weights.now c.args.places) (Ok (sum c.args.weights.now)) (Err QuestionOutOfLimit) asked)
+    record {
+      value = ap Ok total
+          ∙ sym (cond-true (is_sharing_question c.args.weights.now c.args.places) (Ok (sum c.args.weights.now)) (Err QuestionOutOfLimit) asked);
+      small = omega (arith, p.0.total, total);
+    }
