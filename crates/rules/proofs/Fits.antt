@@ -1,6 +1,5 @@
 -- Parts of an amount that fits 64 bits fit 64 bits.
-use Rattle.std.proofs.Common.{◌≡◌, ℕ, zero, suc, ◌-◌, ◌<◌, ◌≤◌, List, get_or, ℤ, pos, negsuc, ◌+ℤ◌, ◌-ℤ◌, ◌*ℤ◌, nat_abs, ◌≤ℤ◌, sum, sym, refl, ap, ◌∙◌, subst, arith, w64, SFits, to_z, of_z}
-use lib.Signed.{mag}
+use Rattle.std.proofs.Common.{◌≡◌, ℕ, zero, suc, ◌-◌, ◌≤◌, List, get_or, ℤ, pos, negsuc, ◌+ℤ◌, ◌-ℤ◌, ◌*ℤ◌, nat_abs, ◌≤ℤ◌, sum, sym, refl, ap, ◌∙◌, subst, arith, w64, SFits, to_z, of_z}
 use Rattle.std.specs.List.{All}
 use Rattle.std.proofs.lemmas.List.Elements.{All-from_get_or}
 use Rattle.std.proofs.lemmas.Int.{ints, by_lt_z, to_z-of_z}
@@ -77,28 +76,10 @@ rest_times_fits amount (suc t) p l s =
     let low = times_le (negsuc 63999999) r p (omega (arith, ints)) in
     omega (arith, ints, high, low)
 
--- a number that fits is the same when it was passed on
-pub passed : (z y : ℤ) → mag z < 9223372036854775808 → z ≡ y → to_z w64 (of_z w64 z) ≡ y
-passed z y ok e = to_z-of_z w64 z (record { sfits = ok }) ∙ e
-
--- the rate of an amount that was passed on
-pub passed_rate : (amount r : ℤ) (total : ℕ) → SFits w64 amount → mag r < 9223372036854775808 → r ≡ truncated (to_z w64 (of_z w64 amount)) total → to_z w64 (of_z w64 r) ≡ truncated amount total
-passed_rate amount r total f ok e = passed r (truncated amount total) ok (e ∙ ap (λ z. truncated z total) (to_z-of_z w64 amount f))
-
 -- a part of what a rate shares
 pub part_fits : (amount q : ℤ) (t p : ℕ) → SFits w64 amount → p ≤ t → q ≡ truncated amount t → SFits w64 (q *ℤ pos p)
 part_fits amount q t p f l e =
     subst (λ z. SFits w64 (z *ℤ pos p)) (sym e) (toward_fits amount (truncated amount t *ℤ pos p) f (rate_toward amount t p l))
-
--- what a rate leaves of an amount, both passed on
-pub passed_rest : (amount q r : ℤ) (total : ℕ) → SFits w64 amount → to_z w64 (of_z w64 q) ≡ truncated amount total → mag r < 9223372036854775808 → r ≡ to_z w64 (of_z w64 amount) -ℤ to_z w64 (of_z w64 q) *ℤ pos total → to_z w64 (of_z w64 r) ≡ amount -ℤ truncated amount total *ℤ pos total
-passed_rest amount q r total f rate ok e =
-    passed r (amount -ℤ truncated amount total *ℤ pos total) ok
-    (e ∙ ap (λ z. z -ℤ to_z w64 (of_z w64 q) *ℤ pos total) (to_z-of_z w64 amount f) ∙ ap (λ z. amount -ℤ z *ℤ pos total) rate)
-
--- a rate that was passed on is the rate of the amount that was passed on
-pub rate_passed : (amount q : ℤ) (total : ℕ) → mag q < 9223372036854775808 → q ≡ truncated (to_z w64 (of_z w64 amount)) total → to_z w64 (of_z w64 q) ≡ truncated (to_z w64 (of_z w64 amount)) total
-rate_passed amount q total ok e = passed q (truncated (to_z w64 (of_z w64 amount)) total) ok e
 
 pub passed_difference : {x y a b : ℤ} → x ≡ a → y ≡ b → SFits w64 (a -ℤ b) → to_z w64 (of_z w64 (x -ℤ y)) ≡ a -ℤ b
 passed_difference {x} {y} {a} {b} e g f = ap (λ z. to_z w64 (of_z w64 (z -ℤ y))) e ∙ ap (λ z. to_z w64 (of_z w64 (a -ℤ z))) g ∙ to_z-of_z w64 (a -ℤ b) f
@@ -132,6 +113,3 @@ cut_by amount q r t p f l s e g =
       is_cut = same;
       cut_fits = subst (SFits w64) (sym same) (toward_fits amount (cut amount t p) f (cut_toward amount t p l));
     }
-
-pub fits_as : {x y a b : ℤ} → x ≡ a → y ≡ b → SFits w64 (a -ℤ b) → SFits w64 (x -ℤ y)
-fits_as {x} {y} {a} {b} e g f = subst (λ z. SFits w64 (z -ℤ y)) (sym e) (subst (λ z. SFits w64 (a -ℤ z)) (sym g) f)

@@ -18,9 +18,6 @@ by_sign P f g (negsuc n) = g (suc n)
 pub truncated_is : (n : ℤ) (t : ℕ) → 0 < t → truncated n t ≡ int_div n (pos t)
 truncated_is n t p = ap (λ b. unwrap_or (cond b (Some (int_div n (pos t))) None) (pos 0)) (le-leb 1 t p)
 
-pub truncated_none : (n : ℤ) → truncated n 0 ≡ pos 0
-truncated_none n = refl
-
 pub truncated_dropped : (n : ℤ) (t : ℕ) → 0 < t → FractionDropped n (pos t) (truncated n t)
 truncated_dropped n t p = subst (FractionDropped n (pos t)) (sym (truncated_is n t p)) (fraction_dropped n (pos t) (omega (arith, ints)))
 
@@ -42,9 +39,6 @@ cut_pos a t p h = truncated_is (pos a *ℤ pos p) t h
 cut_neg : (a t p : ℕ) → 0 < t → cut (neg_ℤ (pos a)) t p ≡ neg_ℤ (pos (a * p / t))
 cut_neg a t p h =
     ap (λ z. truncated z t) (neg_times (pos a) p) ∙ truncated_is (neg_ℤ (pos (a * p))) t h ∙ quot_neg (a * p) t
-
-pub cut_none : (amount : ℤ) (p : ℕ) → cut amount 0 p ≡ pos 0
-cut_none amount p = refl
 
 pub cut_start : (amount : ℤ) (t : ℕ) → cut amount t 0 ≡ pos 0
 cut_start amount zero = refl

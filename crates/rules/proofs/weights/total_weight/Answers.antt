@@ -1,29 +1,31 @@
-use Rattle.std.proofs.Common.{rules, ◌≡◌, ◌<◌, true, length, Ok, Err, sum, sym, ap, ◌∙◌, arith}
-use Rattle.std.specs.List.{All}
-use Rattle.std.proofs.lemmas.Bool.{cond-true}
-use Rattle.rules.specs.Sharing.{is_weight, is_weight_count, is_sharing_question}
-use Rattle.rules.specs.declared.fault.RuleFault.TheVariants.{QuestionOutOfLimit}
-use Rattle.rules.proofs.Questions.{sharing_asked, asked_parts}
+use Rattle.std.proofs.Common.{rules, ◌≡◌, ℕ, ◌<◌, ◌≤◌, true, List, length, sum, arith}
+use Rattle.std.specs.List.{All, list_all}
+use Rattle.std.proofs.lemmas.List.Sums.{sum_by-le, list_all-from_AllPass}
+use Rattle.rules.specs.Sharing.{is_weight, is_weight_count}
 use Rattle.rules.proofs.weights.total_weight.Goals as goal
+
+-- what at most 32 weights within their limit add up to
+sum_small : (ws : List ℕ) → length ws ≤ 32 → All (λ w. w ≤ 2000000) ws → sum ws ≤ 64000000
+sum_small ws few each = omega (arith, sum_by-le (λ x. x) 2000000 ws each)
 
 pub sum-requires-clause-fits : goal.sum-requires-clause-fits
 sum-requires-clause-fits c =
-    let count : is_weight_count (length c.args.weights.now) ≡ true = search rules in
-    let each : All (λ w. is_weight w ≡ true) c.args.weights.now = search rules in
-    let asked = sharing_asked c.args.weights.now c.args.places count each c.if-places-weights.false in
-    let p = asked_parts c.args.weights.now c.args.places asked in
-    let fits : sum c.args.weights.now < 4294967296 = omega (arith, p.0.total) in
+    let few : length c.args.weights.now ≤ 32 = search rules in
+    let each : All (λ w. w ≤ 2000000) c.args.weights.now = search rules in
+    let fits : sum c.args.weights.now < 4294967296 = omega (arith, sum_small c.args.weights.now few each) in
     search rules
 
-pub returns : goal.returns
-returns c =
+pub returns-clause-value : goal.returns-clause-value
+returns-clause-value c =
     let count : is_weight_count (length c.args.weights.now) ≡ true = search rules in
     let each : All (λ w. is_weight w ≡ true) c.args.weights.now = search rules in
-    let asked = sharing_asked c.args.weights.now c.args.places count each c.if-places-weights.false in
-    let p = asked_parts c.args.weights.now c.args.places asked in
+    let pass : list_all is_weight c.args.weights.now ≡ true = list_all-from_AllPass is_weight c.args.weights.now each in
     let total : c.sum.result ≡ sum c.args.weights.now = search rules in
-    record {
-      value = ap Ok total
-          ∙ sym (cond-true (is_sharing_question c.args.weights.now c.args.places) (Ok (sum c.args.weights.now)) (Err QuestionOutOfLimit) asked);
-      small = omega (arith, p.0.total, total);
-    }
+    search rules
+
+pub returns-clause-small : goal.returns-clause-small
+returns-clause-small c =
+    let few : length c.args.weights.now ≤ 32 = search rules in
+    let each : All (λ w. w ≤ 2000000) c.args.weights.now = search rules in
+    let total : c.sum.result ≡ sum c.args.weights.now = search rules in
+    omega (arith, total, sum_small c.args.weights.now few each)
