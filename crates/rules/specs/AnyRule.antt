@@ -1,5 +1,5 @@
 -- What holds of the answers of every rule, in words that name no rule. Assumes nothing.
-use Rattle.std.specs.Prelude.{◌≡◌, ℕ, ◌-◌, ◌<◌, ◌≤◌, Bool, true, false, cond, List, length, ℤ, pos, ◌+ℤ◌, ◌-ℤ◌, ◌≤ℤ◌, Ok, Err, sum, Result, ◌==◌, slice_index, slice_index_or, unsigned_abs}
+use Rattle.std.specs.Prelude.{◌≡◌, ℕ, ◌-◌, ◌<◌, ◌≤◌, Bool, true, false, if◌then◌else◌, List, length, ℤ, pos, ◌+ℤ◌, ◌-ℤ◌, ◌≤ℤ◌, Ok, Err, sum, Result, ◌==◌, slice_index, slice_index_or, unsigned_abs}
 use Rattle.std.specs.List.{All}
 use Rattle.amounts.specs.Sums.{sum_z}
 use Rattle.rules.specs.Prices.{Prices}
@@ -26,7 +26,7 @@ SpreadAnswer in_limits default prices (Err fault) = (in_limits ≡ false) × (fa
 
 -- what remains of an amount, by the sum of the weights
 abbrev pub unshared_by : ℕ → ℤ → Unshared
-unshared_by total remainder = cond (total == 0) Everything (Part remainder)
+unshared_by total remainder = if total == 0 then Everything else Part remainder
 
 -- what is answered, and what the lent slice then holds
 abbrev pub Apportionment : Type 0
@@ -34,7 +34,7 @@ Apportionment = Result Unshared RuleFault × List ℤ
 
 abbrev pub apportioned : Bool → ℕ → List ℤ → ℤ → List ℤ → Apportionment
 apportioned in_limits total shares remainder before =
-    cond in_limits (Ok (unshared_by total remainder), shares) (Err QuestionOutOfLimit, before)
+    if in_limits then (Ok (unshared_by total remainder), shares) else (Err QuestionOutOfLimit, before)
 
 -- all that every rule owes of the shares and the remainder of an amount
 pub record SharedByTheLaws (amount : ℤ) (weights : List ℕ) (margin : ℕ) (shares : List ℤ) (remainder : ℤ) : Type 0 where

@@ -10,7 +10,6 @@ pub mod Marginal
 pub mod Actions
 pub mod Around
 pub mod TalliesLemmas
-pub mod Passes
 pub mod Differences
 pub mod Truncated
 pub mod UnitShares

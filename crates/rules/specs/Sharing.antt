@@ -1,5 +1,5 @@
 -- What a sharing rule is asked and what it answers. Assumes nothing.
-use Rattle.std.specs.Prelude.{◌≡◌, ℕ, Bool, true, cond, ◌&&◌, List, length, ℤ, Ok, Err, Result, ◌==◌, nat_le}
+use Rattle.std.specs.Prelude.{◌≡◌, ℕ, Bool, true, if◌then◌else◌, ◌&&◌, List, length, ℤ, Ok, Err, Result, ◌==◌, nat_le}
 use Rattle.amounts.specs.Arithmetic.{fits64}
 use Rattle.std.specs.List.{list_all}
 use Rattle.rules.specs.declared.fault.RuleFault.{RuleFault}
@@ -31,4 +31,4 @@ Shared = Result ℤ RuleFault × List ℤ
 
 abbrev pub shared : Bool → List ℤ → ℤ → List ℤ → Shared
 shared in_limits shares remainder before =
-    cond in_limits (Ok remainder, shares) (Err QuestionOutOfLimit, before)
+    if in_limits then (Ok remainder, shares) else (Err QuestionOutOfLimit, before)

@@ -57,6 +57,7 @@ fn write_differences(division: Division, weights: &[u32], into: &mut [i64]) -> i
 {
     let mut so_far = 0;
     let mut before = 0;
+    // By index, as in the unit rule.
     for (i, weight) in weights.iter().enumerate() {
         so_far += *weight;
         let reached = division.up_to(so_far);

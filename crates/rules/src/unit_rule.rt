@@ -59,6 +59,7 @@ fn write_multiples(rate: i64, weights: &[u32], into: &mut [i64])
     requires fit { All (λ weight. FitsSigned w64 (rate *ℤ pos weight)) weights.now }
     ensures { into.new ≡ map (λ weight. rate *ℤ pos weight) weights.now }
 {
+    // By index, since of a slice lent by `iter_mut` to a `zip` only the length is known afterwards.
     for (i, weight) in weights.iter().enumerate() {
         into[i] = rate * i64::from(*weight);
     }
