@@ -84,6 +84,11 @@ part_fits amount q t p f l e =
 pub passed_difference : {x y a b : ℤ} → x ≡ a → y ≡ b → SFits w64 (a -ℤ b) → to_z w64 (of_z w64 (x -ℤ y)) ≡ a -ℤ b
 passed_difference {x} {y} {a} {b} e g f = ap (λ z. to_z w64 (of_z w64 (z -ℤ y))) e ∙ ap (λ z. to_z w64 (of_z w64 (a -ℤ z))) g ∙ to_z-of_z w64 (a -ℤ b) f
 
+pub passed_sum : {x y a b : ℤ} → x ≡ a → y ≡ b → SFits w64 (a +ℤ b) → SFits w64 (x +ℤ y) × (to_z w64 (of_z w64 (x +ℤ y)) ≡ a +ℤ b)
+passed_sum {x} {y} {a} {b} e g f =
+    let same : x +ℤ y ≡ a +ℤ b = ap (λ z. z +ℤ y) e ∙ ap (λ z. a +ℤ z) g in
+    (subst (SFits w64) (sym same) f, ap (λ z. to_z w64 (of_z w64 z)) same ∙ to_z-of_z w64 (a +ℤ b) f)
+
 -- a share of the running rule
 pub difference_fits : (amount : ℤ) (t p q : ℕ) → SFits w64 amount → p ≤ q → q ≤ t → SFits w64 (cut amount t q -ℤ cut amount t p)
 difference_fits amount t p q f l m =

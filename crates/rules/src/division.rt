@@ -18,6 +18,7 @@ pub(crate) struct Division {
 }
 
 impl Division {
+    // An amount over a sum of weights.
     pub(crate) fn new(amount: i64, total: u32) -> Division
         requires { total ≤ 64000000 }
         ensures amount { result.amount ≡ amount }

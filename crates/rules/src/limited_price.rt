@@ -8,10 +8,10 @@ ghost use Rattle.rules.specs.PriceRules.{made_where};
 use crate::fault::RuleFault;
 use amounts::amount::Price;
 
-// A default price.
+// A default price: up to `DEFAULT_PRICE_LIMIT`, in figures since a const argument is not computed.
 pub(crate) type DefaultPrice = LimitedPrice<100_000>;
 
-// A fixed price.
+// A fixed price: up to `PRICE_LIMIT`.
 pub(crate) type FixedPrice = LimitedPrice<1_000_000>;
 
 // A price from 0 to a limit, both included.

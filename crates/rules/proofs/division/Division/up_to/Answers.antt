@@ -1,7 +1,7 @@
-use Rattle.std.proofs.Common.{rules, ◌≡◌, pos, ◌+ℤ◌, ◌*ℤ◌, ◌∙◌, w64, to_z, of_z, SFits}
+use Rattle.std.proofs.Common.{rules, ◌≡◌, pos, ◌*ℤ◌, ◌∙◌, w64, to_z, of_z, SFits}
 use Rattle.std.proofs.lemmas.Int.{to_z-of_z}
 use Rattle.rules.specs.SharingRules.{truncated}
-use Rattle.rules.proofs.Fits.{cut_by}
+use Rattle.rules.proofs.Fits.{cut_by, passed_sum}
 use Rattle.rules.proofs.division.Division.up_to.Goals as goal
 
 pub overflow_mul-self : goal.overflow_mul-self
@@ -34,7 +34,7 @@ overflow_add-result c =
     let of_rate : to_z w64 (of_z w64 (to_z w64 (of_z w64 d.rate) *ℤ to_z w64 (of_z w64 c.from-units.result))) ≡ d.rate *ℤ p = rw rate (rw units (to_z-of_z w64 (d.rate *ℤ p) by.quotient_fits)) in
     let product : to_z w64 (of_z w64 (to_z w64 (of_z w64 d.rest) *ℤ to_z w64 (of_z w64 c.from-units.result))) ≡ d.rest *ℤ p = rw rest (rw units (to_z-of_z w64 (d.rest *ℤ p) by.rest_fits)) in
     let of_rest : to_z w64 (of_z w64 c.unwrap_or-of_rest.result) ≡ truncated (d.rest *ℤ p) d.total = search rules in
-    rw of_rate (rw of_rest by.cut_fits)
+    (passed_sum of_rate of_rest by.cut_fits).0
 
 pub returns : goal.returns
 returns c =
@@ -48,4 +48,4 @@ returns c =
     let of_rate : to_z w64 (of_z w64 (to_z w64 (of_z w64 d.rate) *ℤ to_z w64 (of_z w64 c.from-units.result))) ≡ d.rate *ℤ p = rw rate (rw units (to_z-of_z w64 (d.rate *ℤ p) by.quotient_fits)) in
     let product : to_z w64 (of_z w64 (to_z w64 (of_z w64 d.rest) *ℤ to_z w64 (of_z w64 c.from-units.result))) ≡ d.rest *ℤ p = rw rest (rw units (to_z-of_z w64 (d.rest *ℤ p) by.rest_fits)) in
     let of_rest : to_z w64 (of_z w64 c.unwrap_or-of_rest.result) ≡ truncated (d.rest *ℤ p) d.total = search rules in
-    rw of_rate (rw of_rest (to_z-of_z w64 (d.rate *ℤ p +ℤ truncated (d.rest *ℤ p) d.total) by.cut_fits ∙ by.is_cut))
+    (passed_sum of_rate of_rest by.cut_fits).1 ∙ by.is_cut
