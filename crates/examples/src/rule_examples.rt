@@ -162,7 +162,10 @@ fn made_rules(rt: HostRuntime) {
         (100_001, 0, refused),
         (-1, 0, refused),
     ] {
-        assert_eq!(rt; MarginalRule::try_new(Price(default)).is_ok(), check.is_ok());
+        assert_eq!(rt;
+            MarginalRule::try_new(Price(default)).is_ok(),
+            check.is_ok()
+        );
         assert_eq!(rt; MarginalRule::check(Price(default)), check);
         assert_eq!(rt;
             MarginalRule::new(Price(default)).default_price(),
