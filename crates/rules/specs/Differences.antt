@@ -61,6 +61,10 @@ pub record Cuts (amount : ℤ) (f : ℕ → ℤ) : Type 0 where
   pub up : pos 0 ≤ℤ amount → Rising f
   pub down : amount ≤ℤ pos 0 → Falling f
 
+-- z lies between zero and the amount
+abbrev pub Toward : ℤ → ℤ → Type 0
+Toward amount z = (pos 0 ≤ℤ amount → (pos 0 ≤ℤ z) × (z ≤ℤ amount)) × (amount ≤ℤ pos 0 → (amount ≤ℤ z) × (z ≤ℤ pos 0))
+
 pub adds_up : (amount : ℤ) (f : ℕ → ℤ) → Cuts amount f → (ws : List ℕ) → sum_z (differences f 0 ws) +ℤ (amount -ℤ f (sum ws)) ≡ amount
 adds_up amount f c ws =
     let e : f (0 + sum ws) ≡ f (sum ws) = ap f (zero-add (sum ws)) in

@@ -9,7 +9,7 @@ use Rattle.amounts.specs.Arithmetic.{FractionDropped}
 use Rattle.amounts.proofs.Products.{times_zero, neg_times, add_times}
 use Rattle.amounts.proofs.Roundings.{fraction_dropped, div_bounds}
 use Rattle.rules.specs.SharingRules.{truncated, cut, running_shares, PrefixSumsTruncated}
-use Rattle.rules.specs.Differences.{Rising, Falling, Cuts, sum_front}
+use Rattle.rules.specs.Differences.{Rising, Falling, Cuts, Toward, sum_front}
 
 pub by_sign : (P : ℤ → Type 0) → ((n : ℕ) → P (pos n)) → ((n : ℕ) → P (neg_ℤ (pos n))) → (z : ℤ) → P z
 by_sign P f g (pos n) = f n
@@ -137,6 +137,26 @@ rate_cuts amount t =
 
 pub cut_cuts : (amount : ℤ) (t : ℕ) → Cuts amount (cut amount t)
 cut_cuts amount t = record { start = cut_start amount t; up = cut_rising amount t; down = cut_falling amount t }
+
+-- all weights together have no more than the amount
+pub rate_whole : (amount : ℤ) (t : ℕ) → Toward amount (truncated amount t *ℤ pos t)
+rate_whole amount zero = ((λ h. (omega (arith, ints), omega (arith, ints))), (λ h. (omega (arith, ints), omega (arith, ints))))
+rate_whole amount (suc t) =
+    let c = rate_cuts amount (suc t) in
+    let d = truncated_dropped amount (suc t) (omega arith) in (
+      (λ h. let e = d.0 h in let a = c.up h 0 (suc t) (omega arith) in (omega (arith, ints, c.start, a), e.1)),
+      (λ h. let e = d.1 h in let a = c.down h 0 (suc t) (omega arith) in (e.1, omega (arith, ints, c.start, a))),
+    )
+
+self_toward : (amount z : ℤ) → z ≡ amount → Toward amount z
+self_toward amount z e = ((λ h. (omega (arith, ints), omega (arith, ints))), (λ h. (omega (arith, ints), omega (arith, ints))))
+
+zero_toward : (amount z : ℤ) → z ≡ pos 0 → Toward amount z
+zero_toward amount z e = ((λ h. (omega (arith, ints), omega (arith, ints))), (λ h. (omega (arith, ints), omega (arith, ints))))
+
+pub cut_whole_toward : (amount : ℤ) (t : ℕ) → Toward amount (cut amount t t)
+cut_whole_toward amount zero = zero_toward amount (cut amount zero zero) refl
+cut_whole_toward amount (suc t) = self_toward amount (cut amount (suc t) (suc t)) (cut_whole amount (suc t) (omega arith))
 
 -- what a whole rate leaves is smaller than the total
 pub rest_small : (amount : ℤ) (t : ℕ) → 0 < t → unsigned_abs (amount -ℤ truncated amount t *ℤ pos t) ≤ t - 1

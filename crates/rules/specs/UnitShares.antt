@@ -11,7 +11,7 @@ abbrev multiples : ℤ → List ℕ → ℕ → ℤ
 multiples amount ws p = rate amount ws *ℤ pos p
 
 -- the shares, as differences of the rate's multiples
-as_differences : (amount : ℤ) (ws : List ℕ) → unit_shares amount ws ≡ differences (multiples amount ws) 0 ws
+pub as_differences : (amount : ℤ) (ws : List ℕ) → unit_shares amount ws ≡ differences (multiples amount ws) 0 ws
 as_differences amount ws = in_proportion (rate amount ws) 0 ws
 
 pub shares_add_up : (amount : ℤ) (ws : List ℕ) → sum_z (unit_shares amount ws) +ℤ unit_remainder amount ws ≡ amount

@@ -20,7 +20,7 @@ pub struct Spread {
     pub below: WirePrice,
 }
 
-// What remains of an amount that was shared.
+// What remains of an amount that was shared. No `Option<i32>`: its `None` would read as nothing, and here it is all.
 #[derive(Clone, Copy, Debug, PartialEq, Eq)]
 pub enum Unshared {
     // All of it, since all weights are 0.
@@ -52,6 +52,7 @@ fn distance(low: Price, high: Price) -> WirePrice
     requires above { Within low.0 (pos 1100000) high.0 }
     ensures { pos result.0 ≡ high.0 -ℤ low.0 }
 {
+    // `as`, since it is proved to lose nothing, and `try_from` would bring an error that cannot be.
     WirePrice((high.0 - low.0) as u32)
 }
 
@@ -78,5 +79,6 @@ fn unshared_by(total: u32, remainder: i64) -> Unshared
     if total == 0 {
         return Unshared::Everything;
     }
+    // `as`, for the same reason.
     Unshared::Part(remainder as i32)
 }

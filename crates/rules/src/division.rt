@@ -10,8 +10,8 @@ use amounts::rounding::toward_zero;
 pub(crate) struct Division {
     amount: i64,
     total: u32,
-    pub(crate) rate: i64,
-    pub(crate) rest: i64,
+    rate: i64,
+    rest: i64,
     ghost total_small: { total ≤ 64000000 },
     ghost rate_is: { rate ≡ truncated amount total },
     ghost rest_is: { rest ≡ amount -ℤ truncated amount total *ℤ pos total },
@@ -34,13 +34,21 @@ impl Division {
         }
     }
 
-    // What the weights so far have of the amount together, by rate and rest, so that no product leaves 64 bits.
-    pub(crate) fn up_to(self, so_far: u32) -> i64
-        requires { so_far ≤ self.total }
-        ensures { result ≡ cut self.amount self.total so_far }
+    // What the rate gives a part of the total.
+    pub(crate) fn by_rate(self, part: u32) -> i64
+        requires { part ≤ self.total }
+        ensures { result ≡ truncated self.amount self.total *ℤ pos part }
     {
-        let units = i64::from(so_far);
-        let of_rest = toward_zero(self.rest * units, i64::from(self.total)).unwrap_or(0);
-        self.rate * units + of_rest
+        self.rate * i64::from(part)
+    }
+
+    // What is a part's of the amount, with its fraction dropped: by rate and rest, so that no product leaves 64 bits.
+    pub(crate) fn by_rate_and_rest(self, part: u32) -> i64
+        requires { part ≤ self.total }
+        ensures { result ≡ cut self.amount self.total part }
+    {
+        let rests = self.rest * i64::from(part);
+        let of_rest = toward_zero(rests, i64::from(self.total)).unwrap_or(0);
+        self.by_rate(part) + of_rest
     }
 }

@@ -2,6 +2,7 @@
 #![tactic(auto)]
 
 pub mod any_rule;
+mod cut;
 mod division;
 pub mod fault;
 pub mod figures;

@@ -38,7 +38,8 @@ pub trait PriceRule {
         ensures { result ≡ record { 0 = default self.now } };
 
     // The prices, from the counted actions and the seven preceding averages, oldest first; refused exactly where a list or a
-    // figure is out of its limits.
+    // figure is out of its limits. Two lists, and no struct of them: each clause would say `question.now.counted.now`, and each
+    // caller would make the struct for the call.
     fn prices(&self, counted: &[CountedAction], preceding: &[Price]) -> Result<DayPrices, RuleFault>
         ensures value { result ≡ priced (is_price_question counted.now preceding.now) (prices self.now counted.now preceding.now) };
 

@@ -2,14 +2,14 @@
 ghost use Rattle.std.specs.Prelude.{◌≡◌, ◌<◌, length, ℤ, pos, Ok, sum};
 ghost use Rattle.std.proofs.Common.{rules};
 ghost use Rattle.rules.specs.Sharing.{Shared, shared, is_sharing_question};
-ghost use Rattle.rules.specs.SharingRules.{cut, differences, running_shares, running_remainder, running_margin, PrefixSumsTruncated};
+ghost use Rattle.rules.specs.SharingRules.{cut, running_shares, running_remainder, running_margin, PrefixSumsTruncated};
 ghost use Rattle.rules.specs.Differences.{length_differences, adds_up, zero_difference, none_of_zero, none_across_zero, all_remains};
-ghost use Rattle.rules.specs.Truncated.{cut_cuts, nothing_remains};
+ghost use Rattle.rules.specs.Truncated.{cut_cuts, cut_whole_toward, nothing_remains};
 
+use crate::cut::{Cut, share_by};
 use crate::division::Division;
 use crate::fault::RuleFault;
 use crate::sharing_rule::SharingRule;
-use crate::weights::total_weight;
 
 // Every amount is shared to its last unit, unless all weights are 0.
 #[derive(Clone, Copy, Debug, PartialEq, Eq)]
@@ -42,27 +42,18 @@ impl SharingRule for RunningRule {
         ensures value { ◌≡◌ {A = Shared} (result, into.new) (shared (is_sharing_question weights.now (length into.old)) (running_shares amount weights.now) (running_remainder amount weights.now) into.old) }
         ensures prefixes { (remainder : ℤ) → result ≡ Ok remainder → 0 < sum weights.now → PrefixSumsTruncated amount weights.now into.new }
     {
-        let total = total_weight(weights, into.len())?;
-        let shared = write_differences(Division::new(amount, total), weights, into);
-        Ok(amount - shared)
+        share_by::<RunningRule>(amount, weights, into)
     }
 }
 
-// Writes what each weight adds to what the weights so far have together, and answers what all have.
-fn write_differences(division: Division, weights: &[u32], into: &mut [i64]) -> i64
-    requires same { length into.old ≡ length weights.now }
-    requires whole { division.total ≡ sum weights.now }
-    ensures last { result ≡ cut division.amount division.total division.total }
-    ensures written { into.new ≡ differences (cut division.amount division.total) 0 weights.now }
-{
-    let mut so_far = 0;
-    let mut before = 0;
-    // By index, as in the unit rule.
-    for (i, weight) in weights.iter().enumerate() {
-        so_far += *weight;
-        let reached = division.up_to(so_far);
-        into[i] = reached - before;
-        before = reached;
+impl Cut for RunningRule {
+    ghost cut = { cut };
+
+    ghost cuts = { cut_cuts };
+
+    ghost toward = { cut_whole_toward };
+
+    fn cut(division: Division, so_far: u32) -> i64 {
+        division.by_rate_and_rest(so_far)
     }
-    before
 }

@@ -1,19 +1,17 @@
 // The unit rule: one rate for each unit of weight.
-ghost use Rattle.std.specs.Prelude.{◌≡◌, ◌<◌, map, length, ℤ, pos, ◌*ℤ◌, Ok, sum, FitsSigned};
+ghost use Rattle.std.specs.Prelude.{◌≡◌, ◌<◌, length, ℤ, pos, ◌*ℤ◌, Ok, sum};
 ghost use Rattle.std.proofs.Common.{rules};
-ghost use Rattle.std.specs.Int.{w64};
-ghost use Rattle.std.specs.List.{All};
 ghost use Rattle.rules.specs.Sharing.{Shared, shared, is_sharing_question};
-ghost use Rattle.rules.specs.SharingRules.{rate, unit_shares, unit_remainder, unit_margin, InProportion};
+ghost use Rattle.rules.specs.SharingRules.{truncated, rate, unit_shares, unit_remainder, unit_margin, InProportion};
 ghost use Rattle.std.proofs.lemmas.List.{length-map};
 ghost use Rattle.rules.specs.Differences.{all_remains};
-ghost use Rattle.rules.specs.Truncated.{rate_cuts};
+ghost use Rattle.rules.specs.Truncated.{rate_cuts, rate_whole};
 ghost use Rattle.rules.specs.UnitShares.{shares_add_up, none_for_zero, zero_shared, shares_on_one_side, remainder_small};
 
+use crate::cut::{Cut, share_by};
 use crate::division::Division;
 use crate::fault::RuleFault;
 use crate::sharing_rule::SharingRule;
-use crate::weights::total_weight;
 
 // Shares are whole multiples of the weights; what a whole rate cannot share remains.
 #[derive(Clone, Copy, Debug, PartialEq, Eq)]
@@ -46,21 +44,18 @@ impl SharingRule for UnitRule {
         ensures value { ◌≡◌ {A = Shared} (result, into.new) (shared (is_sharing_question weights.now (length into.old)) (unit_shares amount weights.now) (unit_remainder amount weights.now) into.old) }
         ensures proportion { (remainder : ℤ) → result ≡ Ok remainder → 0 < sum weights.now → InProportion amount weights.now into.new }
     {
-        let total = total_weight(weights, into.len())?;
-        let division = Division::new(amount, total);
-        write_multiples(division.rate, weights, into);
-        Ok(division.rest)
+        share_by::<UnitRule>(amount, weights, into)
     }
 }
 
-// Writes the rate times each weight.
-fn write_multiples(rate: i64, weights: &[u32], into: &mut [i64])
-    requires same { length into.old ≡ length weights.now }
-    requires fit { All (λ weight. FitsSigned w64 (rate *ℤ pos weight)) weights.now }
-    ensures { into.new ≡ map (λ weight. rate *ℤ pos weight) weights.now }
-{
-    // By index, since of a slice lent by `iter_mut` to a `zip` only the length is known afterwards.
-    for (i, weight) in weights.iter().enumerate() {
-        into[i] = rate * i64::from(*weight);
+impl Cut for UnitRule {
+    ghost cut = { λ amount total p. truncated amount total *ℤ pos p };
+
+    ghost cuts = { rate_cuts };
+
+    ghost toward = { rate_whole };
+
+    fn cut(division: Division, so_far: u32) -> i64 {
+        division.by_rate(so_far)
     }
 }

@@ -1,19 +1,17 @@
-use Rattle.std.proofs.Common.{rules, ◌≡◌, pos, ◌*ℤ◌, sum, sym, subst, w64, SFits, to_z, of_z}
-use Rattle.std.specs.List.{All}
+use Rattle.std.proofs.Common.{rules, ◌≡◌, sum}
 use Rattle.rules.specs.SharingRules.{rate, unit_shares}
 use Rattle.rules.specs.Truncated.{truncated_dropped}
-use Rattle.rules.proofs.Fits.{shares_fit}
+use Rattle.rules.specs.UnitShares.{as_differences}
 use Rattle.rules.proofs.unit_rule.UnitRuleSharingRule.share.Goals as goal
 
-pub write_multiples-requires-clause-fit : goal.write_multiples-requires-clause-fit
-write_multiples-requires-clause-fit c =
-    let ws = c.args.weights.now in
-    let total : c.in_ok-total.total ≡ sum ws = search rules in
-    let passed : to_z w64 (of_z w64 c.new-division.result.rate) ≡ rate c.args.amount ws = search rules in
-    subst (λ z. All (λ w. SFits w64 (z *ℤ pos w)) ws) (sym passed) (shares_fit c.args.amount ws c.ranges.amount)
+pub returns-clause-value : goal.returns-clause-value
+returns-clause-value c = let e = as_differences c.args.amount c.args.weights.now in search rules
 
 pub returns-clause-proportion : goal.returns-clause-proportion
 returns-clause-proportion c =
+    let amount = c.args.amount in
     let ws = c.args.weights.now in
-    let written : c.write_multiples.new.into ≡ unit_shares c.args.amount ws = search rules in
-    λ remainder e some. (rate c.args.amount ws, truncated_dropped c.args.amount (sum ws) some, written)
+    let e = as_differences amount ws in
+    λ remainder is some.
+    let written : c.share_by.new.into ≡ unit_shares amount ws = search rules in
+    (rate amount ws, truncated_dropped amount (sum ws) some, written)
