@@ -1,5 +1,5 @@
 -- Tests against bounds, told by the order; and sums and products that fit 64 bits.
-use Rattle.std.proofs.Common.{◌≡◌, ℕ, true, T, ℤ, pos, negsuc, ◌≤ℤ◌, Some, None, Option, int_le, sym, subst, arith}
+use Rattle.std.proofs.Common.{◌≡◌, true, T, ℤ, pos, negsuc, ◌≤ℤ◌, Some, None, int_le, sym, subst, arith}
 use Rattle.std.proofs.lemmas.Int.{ints}
 use Rattle.std.proofs.lemmas.Bool.{and_parts, and_from, cond-true}
 use Rattle.amounts.specs.Arithmetic.{fits64, where_fits}
@@ -21,12 +21,3 @@ between_yes low high z l h = and_from (int_le low z) (int_le z high) (le_yes low
 pub where_fits_is : {A : Type 0} (made : ℤ → A) (z : ℤ) → negsuc 9223372036854775807 ≤ℤ z → z ≤ℤ pos 9223372036854775807 → where_fits made z ≡ Some (made z)
 where_fits_is made z l h =
     cond-true (fits64 z) (Some (made z)) None (between_yes (negsuc 9223372036854775807) (pos 9223372036854775807) z l h)
-
-pub never_none : {A : Type 0} (made : ℤ → A) (z : ℤ) (r : Option A) → r ≡ where_fits made z → r ≡ None → negsuc 9223372036854775807 ≤ℤ z → z ≤ℤ pos 9223372036854775807 → ⊥
-never_none made z r e n l h =
-    let s = where_fits_is made z l h in
-    let q : ◌≡◌ {A = ℕ} 0 1 = cc in
-    omega arith
-
-pub some_is : {A : Type 0} (made : ℤ → A) (z : ℤ) (r : Option A) (x : A) → r ≡ where_fits made z → r ≡ Some x → negsuc 9223372036854775807 ≤ℤ z → z ≤ℤ pos 9223372036854775807 → x ≡ made z
-some_is made z r x e n l h = let s = where_fits_is made z l h in cc

@@ -3,7 +3,7 @@ ghost use Rattle.std.specs.Prelude.{◌*◌, ◌≤◌};
 
 use messages::reader::Reader;
 
-// What a listing does next.
+// What a listing does next. An enum, and no closure in its place: `next` matches it once, and each step sets the next.
 #[derive(Clone, Copy)]
 pub(crate) enum Stage {
     // It refuses the whole input, which is too long.

@@ -104,7 +104,8 @@ fn quad(value: &[u8], at: usize) -> u32
     u32::from_be_bytes([value[at], value[at + 1], value[at + 2], value[at + 3]])
 }
 
-// What a mark says: no or yes.
+// What a mark says: no or yes. An action's kind is read likewise by its own `try_from`: one function for both would take the two
+// values and be longer than either.
 fn flag(mark: u8) -> Result<bool, ReaderFault>
     ensures { result ≡ flag_of mark }
 {

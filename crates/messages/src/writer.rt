@@ -11,7 +11,8 @@ use crate::event::Event;
 use crate::fault::ReaderFault;
 use crate::tag::Tag;
 
-// Writes the event's field at a place of the buffer, and answers the place after it.
+// Writes the event's field at a place of the buffer, and answers the place after it. The place comes with each call and is not
+// kept beside the buffer: it is the caller's, and the buffer is lent for one field.
 pub fn write(event: &Event, buffer: &mut [u8], place: usize) -> Result<usize, ReaderFault>
     ensures value { result ≡ written event.now (length buffer.old) place }
     ensures after { buffer.new ≡ (if is_ok result then put buffer.old place (encode event.now) else buffer.old) }
@@ -121,6 +122,7 @@ fn put_numbers(buffer: &mut [u8], place: usize, numbers: &[u32])
     requires { place + 4 * length numbers.now ≤ length buffer.old }
     ensures { buffer.new ≡ put buffer.old place (quads_of numbers.now) }
 {
+    // By index, since of the pieces that `chunks_exact_mut` lends no byte is known afterwards.
     for (i, number) in numbers.iter().enumerate() {
         put(buffer, place + 4 * i, &number.to_be_bytes());
     }
