@@ -49,7 +49,8 @@ fn write_shares<C: Cut>(division: Division, weights: &[u32], into: &mut [i64]) -
     for (i, weight) in weights.iter().enumerate() {
         so_far += *weight;
         let reached = C::cut(division, so_far);
-        into[i] = reached - before;
+        let share = reached - before;
+        into[i] = share;
         before = reached;
     }
     before

@@ -10,8 +10,8 @@ added_fits : (amount : ℤ) (f : ℕ → ℤ) (ws : List ℕ) (i total : ℕ) �
 added_fits amount f ws i total cuts toward fits l whole =
     gap_fits amount f cuts total (sum (take i ws)) (sum (take i ws) + get_or ws i 0) toward fits (omega arith) (omega (arith, sum_by_more_le (λ x. x) ws i 0 l, whole))
 
-pub overflow_sub-into : goal.overflow_sub-into
-overflow_sub-into g c =
+pub overflow_sub-share : goal.overflow_sub-share
+overflow_sub-share g c =
     let ws = c.args.weights.now in
     let i = c.loop-i.i in
     let d = c.args.division in
