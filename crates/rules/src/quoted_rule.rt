@@ -1,8 +1,7 @@
 // The quoted rule: a fixed price in the place of an average.
-ghost use Rattle.std.specs.Prelude.{◌≡◌, ◌&&◌, pos, ◌+ℤ◌, ◌-ℤ◌, if◌then◌else◌};
+ghost use Rattle.std.specs.Prelude.{◌≡◌, pos, ◌+ℤ◌, ◌-ℤ◌, if◌then◌else◌};
 ghost use Rattle.std.specs.Result.{result_map_both};
-ghost use Rattle.amounts.specs.Limits.{is_in_limit, is_default};
-ghost use Rattle.rules.specs.PriceRules.{quoted, made_where, check_answer};
+ghost use Rattle.rules.specs.PriceRules.{quoted, is_quotable, made_where, check_answer};
 ghost use Rattle.std.proofs.Common.{rules};
 
 use crate::fault::RuleFault;
@@ -23,7 +22,7 @@ pub struct QuotedRule {
 impl QuotedRule {
     // The rule with these prices; refused where one of them is out of its limits.
     pub fn try_new(fixed_price: Price, default_price: Price) -> Result<QuotedRule, RuleFault>
-        ensures { result_map_both {U = Price × Price} (λ (rule : QuotedRule). (rule.fixed.price, rule.offset.price)) (λ fault. fault) result ≡ made_where (is_in_limit fixed_price.0 && is_default default_price.0) (fixed_price, default_price) }
+        ensures { result_map_both {U = Price × Price} (λ (rule : QuotedRule). (rule.fixed.price, rule.offset.price)) (λ fault. fault) result ≡ made_where (is_quotable fixed_price default_price) (fixed_price, default_price) }
     {
         Ok(QuotedRule {
             fixed: fixed_price.try_into()?,
@@ -33,15 +32,15 @@ impl QuotedRule {
 
     // Whether a rule can be made of this fixed price and this default price.
     pub fn check(fixed_price: Price, default_price: Price) -> Result<(), RuleFault>
-        ensures { result ≡ check_answer (is_in_limit fixed_price.0 && is_default default_price.0) }
+        ensures { result ≡ check_answer (is_quotable fixed_price default_price) }
     {
         QuotedRule::try_new(fixed_price, default_price).map(|_| ())
     }
 
     // The rule with these prices; of prices that `check` refuses, with 0 and 0.
     pub fn new(fixed_price: Price, default_price: Price) -> QuotedRule
-        ensures fixed { result.fixed.price.0 ≡ (if is_in_limit fixed_price.0 && is_default default_price.0 then fixed_price.0 else pos 0) }
-        ensures default { result.offset.price.0 ≡ (if is_in_limit fixed_price.0 && is_default default_price.0 then default_price.0 else pos 0) }
+        ensures fixed { result.fixed.price.0 ≡ (if is_quotable fixed_price default_price then fixed_price.0 else pos 0) }
+        ensures default { result.offset.price.0 ≡ (if is_quotable fixed_price default_price then default_price.0 else pos 0) }
     {
         QuotedRule::try_new(fixed_price, default_price).unwrap_or_default()
     }
