@@ -148,7 +148,10 @@ fn made_rules(rt: HostRuntime) {
     ] {
         let rule = QuotedRule::new(Price(fixed), Price(default));
         let tried = QuotedRule::try_new(Price(fixed), Price(default));
-        assert_eq!(rt; tried.is_ok(), check.is_ok());
+        assert_eq!(rt;
+            tried.map(|rule| rule.default_price()),
+            check.map(|_| Price(made))
+        );
         assert_eq!(rt; QuotedRule::check(Price(fixed), Price(default)), check);
         assert_eq!(rt; rule.default_price(), Price(made));
         assert_eq!(rt;
@@ -162,9 +165,10 @@ fn made_rules(rt: HostRuntime) {
         (100_001, 0, refused),
         (-1, 0, refused),
     ] {
+        let tried = MarginalRule::try_new(Price(default));
         assert_eq!(rt;
-            MarginalRule::try_new(Price(default)).is_ok(),
-            check.is_ok()
+            tried.map(|rule| rule.default_price()),
+            check.map(|_| Price(made))
         );
         assert_eq!(rt; MarginalRule::check(Price(default)), check);
         assert_eq!(rt;
