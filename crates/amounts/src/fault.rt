@@ -10,7 +10,7 @@ pub trait Fault {
 
     ghost number: { Self → ℕ };
 
-    // The layer that refuses.
+    // The layer of all its causes.
     const REFUSED_BY: Layer;
 
     // The number of the cause, as it is printed.

@@ -1,4 +1,4 @@
-// What every layer shares: quantities, prices and money, their limits, rounding, and the layers that refuse.
+// What every layer shares: quantities, prices and money, their limits, rounding, and what a refusal is.
 #![tactic(auto)]
 
 pub mod amount;

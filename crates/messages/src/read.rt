@@ -15,7 +15,8 @@ use amounts::wire::{WireKwh, WireKwhChange, WirePrice};
 use std::array;
 
 impl Reader<'_> {
-    // The next event, or none at the end of the bytes. A refusal leaves the reader where it was.
+    // The next event, or none at the end of the bytes. A refusal leaves the reader where it was; so this is no `Iterator`, which
+    // would give the same refusal for ever.
     pub fn next(&mut self) -> Result<Option<Event>, ReaderFault>
         ensures value { result ≡ decode self.old.place self.old.bytes.now }
         ensures message { Accepted self.old.place (drop self.old.place self.old.bytes.now) result }

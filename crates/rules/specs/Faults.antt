@@ -8,8 +8,8 @@ abbrev pub number : RuleFault → ℕ
 number PriceOutOfLimit = 11
 number QuestionOutOfLimit = 50
 
-pub told_by_number : (a b : RuleFault) → number a ≡ number b → a ≡ b
-told_by_number PriceOutOfLimit PriceOutOfLimit e = refl
-told_by_number PriceOutOfLimit QuestionOutOfLimit e = absurd (omega arith)
-told_by_number QuestionOutOfLimit PriceOutOfLimit e = absurd (omega arith)
-told_by_number QuestionOutOfLimit QuestionOutOfLimit e = refl
+pub tells_apart : (a b : RuleFault) → number a ≡ number b → a ≡ b
+tells_apart PriceOutOfLimit PriceOutOfLimit e = refl
+tells_apart PriceOutOfLimit QuestionOutOfLimit e = absurd (omega arith)
+tells_apart QuestionOutOfLimit PriceOutOfLimit e = absurd (omega arith)
+tells_apart QuestionOutOfLimit QuestionOutOfLimit e = refl

@@ -79,6 +79,6 @@ fn unshared_by(total: u32, remainder: i64) -> Unshared
     if total == 0 {
         return Unshared::Everything;
     }
-    // `as`, for the same reason.
+    // `as`, since it is proved to lose nothing, and `try_from` would bring an error that cannot be.
     Unshared::Part(remainder as i32)
 }

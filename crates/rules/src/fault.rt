@@ -1,10 +1,11 @@
 // What a rule refuses: to be made of a price out of its limits, and to be asked with a list or figure out of its limits.
-ghost use Rattle.rules.specs.Faults.{number, told_by_number};
+ghost use Rattle.rules.specs.Faults.{number, tells_apart};
 ghost use Rattle.amounts.specs.declared.layer.Layer.{Layer};
 
 use amounts::fault::Fault;
 use amounts::layer::Layer;
 
+// The causes, each with its number.
 #[derive(Clone, Copy, Debug, PartialEq, Eq)]
 pub enum RuleFault {
     // A price that a rule is made of is out of its limits.
@@ -18,7 +19,7 @@ impl Fault for RuleFault {
 
     ghost number = { number };
 
-    ghost tells_apart = { told_by_number };
+    ghost tells_apart = { tells_apart };
 
     const REFUSED_BY: Layer = Layer::Rule;
 

@@ -8,10 +8,10 @@ ghost use Rattle.rules.specs.PriceRules.{made_where};
 use crate::fault::RuleFault;
 use amounts::amount::Price;
 
-// A default price: up to `DEFAULT_PRICE_LIMIT`, in figures since a const argument is not computed.
+// A default price: up to `DEFAULT_PRICE_LIMIT`, in figures since a const argument is no `Price`.
 pub(crate) type DefaultPrice = LimitedPrice<100_000>;
 
-// A fixed price: up to `PRICE_LIMIT`.
+// A fixed price: up to `PRICE_LIMIT`, likewise in figures.
 pub(crate) type FixedPrice = LimitedPrice<1_000_000>;
 
 // A price from 0 to a limit, both included.

@@ -38,6 +38,7 @@ impl SharingRule for RunningRule {
 
     ghost margin_below_total = { Prim.search rules };
 
+    // `value` repeats the trait's clause, since clauses on a method stand in place of its trait's.
     fn share(&self, amount: i64, weights: &[u32], into: &mut [i64]) -> Result<i64, RuleFault>
         ensures value { ◌≡◌ {A = Shared} (result, into.new) (shared (is_sharing_question weights.now (length into.old)) (running_shares amount weights.now) (running_remainder amount weights.now) into.old) }
         ensures prefixes { (remainder : ℤ) → result ≡ Ok remainder → 0 < sum weights.now → PrefixSumsTruncated amount weights.now into.new }

@@ -15,8 +15,8 @@ pub trait SharingRule {
     ghost margin: { Self → ℕ → ℕ };
 
     // Writes a share for each weight and answers the remainder; refused exactly where a list or a figure is out of its
-    // limits, and then the slice is as it was. Amount, weights and slice are no struct: one that holds a lent slice could not be
-    // handed on and used again.
+    // limits, and then the slice is as it was. Amount, weights and slice are no struct: one that holds the lent slice changes
+    // with it, and each clause would name the moment at which it reads the other two.
     fn share(&self, amount: i64, weights: &[u32], into: &mut [i64]) -> Result<i64, RuleFault>
         ensures value { ◌≡◌ {A = Shared} (result, into.new) (shared (is_sharing_question weights.now (length into.old)) (shares self.now amount weights.now) (remainder self.now amount weights.now) into.old) };
 

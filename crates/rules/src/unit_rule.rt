@@ -40,6 +40,7 @@ impl SharingRule for UnitRule {
 
     ghost margin_below_total = { Prim.search rules };
 
+    // `value` repeats the trait's clause, since clauses on a method stand in place of its trait's.
     fn share(&self, amount: i64, weights: &[u32], into: &mut [i64]) -> Result<i64, RuleFault>
         ensures value { ◌≡◌ {A = Shared} (result, into.new) (shared (is_sharing_question weights.now (length into.old)) (unit_shares amount weights.now) (unit_remainder amount weights.now) into.old) }
         ensures proportion { (remainder : ℤ) → result ≡ Ok remainder → 0 < sum weights.now → InProportion amount weights.now into.new }
