@@ -1,6 +1,6 @@
 // The events that messages carry, one to a field.
 ghost use Rattle.std.specs.Prelude.{◌≡◌};
-ghost use Rattle.messages.specs.Field.{kind_byte, kind_of, tag, size, stands_at};
+ghost use Rattle.messages.specs.Field.{kind_byte, marked, kind_of, tag, size, stands_at};
 
 use crate::fault::ReaderFault;
 use crate::tag::Tag;
@@ -27,11 +27,18 @@ impl TryFrom<u8> for ActionKind {
     ghost try_from_gives = { λ mark answer. answer ≡ kind_of mark };
 
     fn try_from(mark: u8) -> Result<ActionKind, ReaderFault> {
-        match mark {
-            0 => Ok(ActionKind::Buy),
-            1 => Ok(ActionKind::Sell),
-            _ => Err(ReaderFault::MarkUnknown),
-        }
+        marked(mark, ActionKind::Buy, ActionKind::Sell)
+    }
+}
+
+// What a mark says: of two things the one under 0 or the one under 1.
+pub(crate) fn marked<T: Copy>(mark: u8, zero: T, one: T) -> Result<T, ReaderFault>
+    ensures { result ≡ marked zero one mark }
+{
+    match mark {
+        0 => Ok(zero),
+        1 => Ok(one),
+        _ => Err(ReaderFault::MarkUnknown),
     }
 }
 
@@ -90,7 +97,7 @@ impl Event {
     pub(crate) fn size(&self) -> usize
         ensures { result ≡ size self.now }
     {
-        3 + usize::from(self.tag().value_length())
+        self.tag().field_length()
     }
 
     // Whether the event may stand at a place: an opening at the first, any other elsewhere.

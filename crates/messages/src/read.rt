@@ -2,12 +2,11 @@
 ghost use Rattle.std.specs.Prelude.{◌≡◌, ◌+◌, ◌≤◌, ◌<◌, drop, length, IfOk};
 ghost use Rattle.std.specs.Int.{w32, cast_signed};
 ghost use Rattle.messages.specs.Tag.{value_length};
-ghost use Rattle.messages.specs.Field.{flag_of};
 ghost use Rattle.messages.specs.Decode.{quad, event_of, valued, field, decode, after};
 ghost use Rattle.messages.specs.Message.{Message, Accepted, ReadsAs};
 ghost use Rattle.messages.specs.Left.{left, Falls};
 
-use crate::event::{ActionKind, Event};
+use crate::event::{ActionKind, Event, marked};
 use crate::fault::ReaderFault;
 use crate::reader::Reader;
 use crate::tag::Tag;
@@ -79,7 +78,7 @@ fn event_of(tag: Tag, value: &[u8]) -> Result<Event, ReaderFault>
         Tag::Action => Event::Action {
             user: value[0],
             kind: ActionKind::try_from(value[1])?,
-            locational: flag(value[2])?,
+            locational: marked(value[2], false, true)?,
             quantity: WireKwh(quad(value, 3)),
             price: WirePrice(quad(value, 7)),
         },
@@ -103,16 +102,4 @@ fn quad(value: &[u8], at: usize) -> u32
     ensures { result ≡ quad value.now at }
 {
     u32::from_be_bytes([value[at], value[at + 1], value[at + 2], value[at + 3]])
-}
-
-// What a mark says: no or yes. An action's kind is read likewise by its own `try_from`: one function for both would take the two
-// values and be longer than either.
-fn flag(mark: u8) -> Result<bool, ReaderFault>
-    ensures { result ≡ flag_of mark }
-{
-    match mark {
-        0 => Ok(false),
-        1 => Ok(true),
-        _ => Err(ReaderFault::MarkUnknown),
-    }
 }

@@ -1,5 +1,5 @@
 // The tags of fields. A tag says what event the field's value is, and so how long the value is.
-ghost use Rattle.std.specs.Prelude.{◌≡◌};
+ghost use Rattle.std.specs.Prelude.{◌≡◌, ◌+◌};
 ghost use Rattle.messages.specs.Tag.{byte, value_length, may_stand, tag_of, tag_at};
 
 use crate::fault::ReaderFault;
@@ -78,5 +78,12 @@ impl Tag {
             Tag::Reconcile => 7,
             Tag::Opening => 33,
         }
+    }
+
+    // How many bytes the field has, its tag and its length among them.
+    pub(crate) fn field_length(self) -> usize
+        ensures { result ≡ 3 + value_length self }
+    {
+        3 + usize::from(self.value_length())
     }
 }

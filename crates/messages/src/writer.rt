@@ -1,11 +1,11 @@
 // Writes an event's field into a lent buffer.
-ghost use Rattle.std.specs.Prelude.{◌≡◌, ◌+◌, ◌*◌, ◌^◌, ◌<◌, ◌≤◌, ◌++◌, length, is_ok, if◌then◌else◌, Some, Ok, OnOk};
+ghost use Rattle.std.specs.Prelude.{◌≡◌, ◌+◌, ◌*◌, ◌^◌, ◌<◌, ◌≤◌, ◌++◌, length, Some, Ok, OnOk};
 ghost use Rattle.std.specs.List.{All};
 ghost use Rattle.messages.specs.Tag.{value_length};
 ghost use Rattle.messages.specs.Field.{size};
 ghost use Rattle.messages.specs.Decode.{decode};
 ghost use Rattle.messages.specs.Encode.{quads_of, framed, encode, Whole};
-ghost use Rattle.messages.specs.Write.{put, fitted, written};
+ghost use Rattle.messages.specs.Write.{put, left_by, fitted, written};
 
 use crate::event::Event;
 use crate::fault::ReaderFault;
@@ -15,7 +15,7 @@ use crate::tag::Tag;
 // kept beside the buffer: it is the caller's, and the buffer is lent for one field.
 pub fn write(event: &Event, buffer: &mut [u8], place: usize) -> Result<usize, ReaderFault>
     ensures value { result ≡ written event.now (length buffer.old) place }
-    ensures after { buffer.new ≡ (if is_ok result then put buffer.old place (encode event.now) else buffer.old) }
+    ensures after { buffer.new ≡ left_by result buffer.old place (encode event.now) }
     ensures reads { OnOk result (decode place buffer.new ≡ Ok (Some event.now)) }
 {
     if !event.stands_at(place) {
@@ -26,7 +26,7 @@ pub fn write(event: &Event, buffer: &mut [u8], place: usize) -> Result<usize, Re
 
 fn write_event(event: Event, buffer: &mut [u8], place: usize) -> Result<usize, ReaderFault>
     ensures value { result ≡ fitted (size event) (length buffer.old) place }
-    ensures after { buffer.new ≡ (if is_ok result then put buffer.old place (encode event) else buffer.old) }
+    ensures after { buffer.new ≡ left_by result buffer.old place (encode event) }
     ensures whole { Whole event }
 {
     let tag = event.tag();
@@ -103,10 +103,10 @@ fn write_field(
 ) -> Result<usize, ReaderFault>
     requires { length bytes.now + 4 * length numbers.now ≡ value_length tag }
     ensures value { result ≡ fitted (3 + value_length tag) (length buffer.old) place }
-    ensures after { buffer.new ≡ (if is_ok result then put buffer.old place (framed tag (bytes.now ++ quads_of numbers.now)) else buffer.old) }
+    ensures after { buffer.new ≡ left_by result buffer.old place (framed tag (bytes.now ++ quads_of numbers.now)) }
     ensures fit { All (λ n. n < 2 ^ 32) numbers.now }
 {
-    let size = 3 + usize::from(tag.value_length());
+    let size = tag.field_length();
     if place > buffer.len() || buffer.len() - place < size {
         return Err(ReaderFault::NoSpace);
     }
@@ -122,7 +122,7 @@ fn put_numbers(buffer: &mut [u8], place: usize, numbers: &[u32])
     requires { place + 4 * length numbers.now ≤ length buffer.old }
     ensures { buffer.new ≡ put buffer.old place (quads_of numbers.now) }
 {
-    // By index, since of the pieces that `chunks_exact_mut` lends no byte is known afterwards.
+    // By index: tried as a `zip` with `chunks_exact_mut`, after which no byte of the buffer is known.
     for (i, number) in numbers.iter().enumerate() {
         put(buffer, place + 4 * i, &number.to_be_bytes());
     }
