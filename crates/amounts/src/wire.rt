@@ -1,5 +1,5 @@
 // Quantities and prices in the widths in which messages carry them: each holds exactly the numbers of its four bytes, and
-// converts to the quantity or price to compute with.
+// converts to the quantity or price to compute with. They are types of their own, so that none is taken for another.
 ghost use Rattle.std.specs.Prelude.{◌≡◌, pos, Some, decimal};
 ghost use Rattle.std.specs.Fmt.{signed_decimal};
 

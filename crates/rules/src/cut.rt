@@ -45,7 +45,7 @@ fn write_shares<C: Cut>(division: Division, weights: &[u32], into: &mut [i64]) -
 {
     let mut so_far = 0;
     let mut before = 0;
-    // By index, since of a slice lent by `iter_mut` to a `zip` no element is known afterwards.
+    // By index: tried as a `zip` with `iter_mut`, after which no element of the slice is known.
     for (i, weight) in weights.iter().enumerate() {
         so_far += *weight;
         let reached = C::cut(division, so_far);

@@ -17,6 +17,7 @@ pub(crate) struct Division {
     ghost rest_is: { rest ≡ amount -ℤ truncated amount total *ℤ pos total },
 }
 
+// A part is a plain number with a bound asked, and no type: a loop asks one division about a new part at each turn.
 impl Division {
     // An amount over a sum of weights.
     pub(crate) fn new(amount: i64, total: u32) -> Division

@@ -21,6 +21,7 @@ pub(crate) struct LimitedPrice<const LIMIT: u32> {
     ghost within: { Within (pos 0) (pos LIMIT) price.0 },
 }
 
+// By hand, since a struct with a ghost field derives no `Default`.
 impl<const LIMIT: u32> Default for LimitedPrice<LIMIT> {
     ghost is_default = { λ limited. limited.price.0 ≡ pos 0 };
 

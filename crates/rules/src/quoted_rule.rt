@@ -20,7 +20,8 @@ pub struct QuotedRule {
 }
 
 impl QuotedRule {
-    // The rule with these prices; refused where one of them is out of its limits.
+    // The rule with these prices; refused where one of them is out of its limits. The two are parameters here and below, and no
+    // struct: the rule itself is the struct of both.
     pub fn try_new(fixed_price: Price, default_price: Price) -> Result<QuotedRule, RuleFault>
         ensures { result_map_both {U = Price × Price} (λ (rule : QuotedRule). (rule.fixed.price, rule.offset.price)) (λ fault. fault) result ≡ made_where (is_quotable fixed_price default_price) (fixed_price, default_price) }
     {

@@ -16,7 +16,8 @@ pub trait SharingRule {
 
     // Writes a share for each weight and answers the remainder; refused exactly where a list or a figure is out of its
     // limits, and then the slice is as it was. Amount, weights and slice are no struct: one that holds the lent slice changes
-    // with it, and each clause would name the moment at which it reads the other two.
+    // with it, and each clause would name the moment at which it reads the other two. Weights and shares are two slices, since
+    // the caller lends both and there is no heap to hold pairs.
     fn share(&self, amount: i64, weights: &[u32], into: &mut [i64]) -> Result<i64, RuleFault>
         ensures value { ◌≡◌ {A = Shared} (result, into.new) (shared (is_sharing_question weights.now (length into.old)) (shares self.now amount weights.now) (remainder self.now amount weights.now) into.old) };
 
