@@ -68,8 +68,8 @@ value_reads (Opening users default_price averages) w =
 tag_there : (place : ℕ) (t : Tag) → may_stand t place ≡ true → tag_at place (byte t) ≡ Ok t
 tag_there place t known = ap (λ r. r >>= (λ s. cond (may_stand s place) (Ok s) (Err TagUnknown))) (tag_known t) ∙ cond-true _ _ (Err TagUnknown) known
 
-field_reads : (place : ℕ) (event : Event) (more : List ℕ) → Whole event → stands_at event place ≡ true → field place (encode event ++ more) ≡ Ok event
-field_reads place event more w known =
+pub reads_field : (place : ℕ) (event : Event) (more : List ℕ) → Whole event → stands_at event place ≡ true → field place (encode event ++ more) ≡ Ok event
+reads_field place event more w known =
     let t : Tag = tag event in
     let long : length (value event) ≡ value_length t = value_size event w in
     let fits : value_length t ≤ length (value event ++ more) = omega (arith, length-append (value event) more) in
@@ -87,4 +87,4 @@ message_reads place bytes event m =
     let parts : bs ≡ encode event ++ more = sym (take-append-drop (size event) bs) ∙ ap (λ l. l ++ more) m.same in
     let long : length bs ≡ size event + length more = ap length parts ∙ length-append (encode event) more ∙ ap (λ n. n + length more) (encode_size event m.whole) in
     let within : place < length bytes = omega (arith, length-drop place bytes, size_least event) in
-    decode_within place bytes within ∙ ap some (ap (field place) parts ∙ field_reads place event more m.whole m.known)
+    decode_within place bytes within ∙ ap some (ap (field place) parts ∙ reads_field place event more m.whole m.known)

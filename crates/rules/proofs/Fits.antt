@@ -1,10 +1,16 @@
--- Parts of an amount that fits 64 bits fit 64 bits.
-use Rattle.std.proofs.Common.{◌≡◌, ℕ, zero, suc, ◌-◌, ◌≤◌, ℤ, pos, negsuc, ◌-ℤ◌, ◌*ℤ◌, nat_abs, ◌≤ℤ◌, sym, ap, ◌∙◌, subst, arith, w64, SFits, to_z, of_z}
+-- Weights add up within 32 bits, and parts of an amount that fits 64 bits fit 64 bits.
+use Rattle.std.proofs.Common.{◌≡◌, ℕ, zero, suc, ◌-◌, ◌≤◌, List, length, sum, ℤ, pos, negsuc, ◌+ℤ◌, ◌-ℤ◌, ◌*ℤ◌, nat_abs, ◌≤ℤ◌, sym, ap, ◌∙◌, subst, arith, w64, SFits, to_z, of_z}
+use Rattle.std.specs.List.{All}
+use Rattle.std.proofs.lemmas.List.Sums.{sum_by-le}
 use Rattle.std.proofs.lemmas.Int.{ints, by_lt_z, to_z-of_z}
 use Rattle.amounts.proofs.Products.{times_zero, times_le}
 use Rattle.rules.specs.SharingRules.{truncated, cut}
-use Rattle.rules.specs.Differences.{Cuts, Toward}
-use Rattle.rules.specs.Truncated.{rate_cuts, rate_whole, cut_cuts, cut_whole_toward, rest_small}
+use Rattle.rules.specs.Cuts.{Cuts, Toward}
+use Rattle.rules.specs.Truncated.{rate_cuts, rate_whole, cut_cuts, cut_whole_toward, cut_split, rest_small}
+
+-- what at most 32 weights within their limit add up to
+pub sum_small : (ws : List ℕ) → length ws ≤ 32 → All (λ w. w ≤ 2000000) ws → sum ws ≤ 64000000
+sum_small ws few each = omega (arith, sum_by-le (λ x. x) 2000000 ws each)
 
 pub toward_fits : (amount z : ℤ) → SFits w64 amount → Toward amount z → SFits w64 z
 toward_fits amount z f t =
@@ -48,6 +54,26 @@ rest_times_fits amount (suc t) p l s =
 pub part_fits : (amount q : ℤ) (t p : ℕ) → SFits w64 amount → p ≤ t → q ≡ truncated amount t → SFits w64 (q *ℤ pos p)
 part_fits amount q t p f l e =
     subst (λ z. SFits w64 (z *ℤ pos p)) (sym e) (toward_fits amount (truncated amount t *ℤ pos p) f (rate_toward amount t p l))
+
+-- and its product is that part
+pub part_is : (amount q : ℤ) (t p : ℕ) → SFits w64 amount → p ≤ t → q ≡ truncated amount t → to_z w64 (of_z w64 (q *ℤ pos p)) ≡ truncated amount t *ℤ pos p
+part_is amount q t p f l e = to_z-of_z w64 (q *ℤ pos p) (part_fits amount q t p f l e) ∙ ap (λ z. z *ℤ pos p) e
+
+-- the rest's product by a part
+pub rests_fit : (amount r : ℤ) (t p : ℕ) → p ≤ t → t ≤ 64000000 → r ≡ amount -ℤ truncated amount t *ℤ pos t → SFits w64 (r *ℤ pos p)
+rests_fit amount r t p l s e = subst (λ z. SFits w64 (z *ℤ pos p)) (sym e) (rest_times_fits amount t p l s)
+
+-- what the rate gives a part, and what is the part's of the rest, are the cut
+cut_of_both : (amount r x y : ℤ) (t p : ℕ) → r ≡ amount -ℤ truncated amount t *ℤ pos t → x ≡ truncated amount t *ℤ pos p → y ≡ truncated (r *ℤ pos p) t → x +ℤ y ≡ cut amount t p
+cut_of_both amount r x y t p e f g = rw f (rw g (rw e (sym (cut_split amount t p))))
+
+pub split_fits : (amount r x y : ℤ) (t p : ℕ) → SFits w64 amount → p ≤ t → r ≡ amount -ℤ truncated amount t *ℤ pos t → x ≡ truncated amount t *ℤ pos p → y ≡ truncated (r *ℤ pos p) t → SFits w64 (x +ℤ y)
+split_fits amount r x y t p fits l e f g =
+    subst (SFits w64) (sym (cut_of_both amount r x y t p e f g)) (toward_fits amount (cut amount t p) fits (cut_toward amount t p l))
+
+pub split_is : (amount r x y : ℤ) (t p : ℕ) → SFits w64 amount → p ≤ t → r ≡ amount -ℤ truncated amount t *ℤ pos t → x ≡ truncated amount t *ℤ pos p → y ≡ truncated (r *ℤ pos p) t → to_z w64 (of_z w64 (x +ℤ y)) ≡ cut amount t p
+split_is amount r x y t p fits l e f g =
+    to_z-of_z w64 (x +ℤ y) (split_fits amount r x y t p fits l e f g) ∙ cut_of_both amount r x y t p e f g
 
 pub passed_difference : {x y a b : ℤ} → x ≡ a → y ≡ b → SFits w64 (a -ℤ b) → to_z w64 (of_z w64 (x -ℤ y)) ≡ a -ℤ b
 passed_difference {x} {y} {a} {b} e g f = ap (λ z. to_z w64 (of_z w64 (z -ℤ y))) e ∙ ap (λ z. to_z w64 (of_z w64 (a -ℤ z))) g ∙ to_z-of_z w64 (a -ℤ b) f

@@ -9,6 +9,7 @@ use Rattle.std.proofs.lemmas.List.Sums.{sum_by-cons}
 use Rattle.amounts.specs.Sums.{sum_z}
 use Rattle.amounts.proofs.Products.{times_add}
 use Rattle.rules.specs.SharingRules.{differences}
+use Rattle.rules.specs.Cuts.{Cuts}
 
 pub length_differences : (f : ℕ → ℤ) (p : ℕ) (ws : List ℕ) → length (differences f p ws) ≡ length ws
 length_differences f p [] = refl
@@ -35,12 +36,6 @@ zero_difference f p (w ∷ ws) zero l e =
     omega (arith, ints)
 zero_difference f p (w ∷ ws) (suc k) l e = zero_difference f (p + w) ws k (omega arith) e
 
-abbrev pub Rising : (ℕ → ℤ) → Type 0
-Rising f = (p q : ℕ) → p ≤ q → f p ≤ℤ f q
-
-abbrev pub Falling : (ℕ → ℤ) → Type 0
-Falling f = (p q : ℕ) → p ≤ q → f q ≤ℤ f p
-
 -- what holds of the function's every step holds of the differences
 pub each_difference : (P : ℤ → Type 0) (f : ℕ → ℤ) → ((p q : ℕ) → p ≤ q → P (f q -ℤ f p)) → (p : ℕ) (ws : List ℕ) → All P (differences f p ws)
 each_difference P f step p [] = All-nil P
@@ -54,16 +49,6 @@ in_proportion r p (w ∷ ws) =
     let h : r *ℤ pos w ≡ r *ℤ pos (p + w) -ℤ r *ℤ pos p = omega (arith, ints, times_add r p w) in
     let t = in_proportion r (p + w) ws in
     cc
-
--- a function of the weights so far by which an amount is shared: from 0 on, it goes the amount's way
-pub record Cuts (amount : ℤ) (f : ℕ → ℤ) : Type 0 where
-  pub start : f 0 ≡ pos 0
-  pub up : pos 0 ≤ℤ amount → Rising f
-  pub down : amount ≤ℤ pos 0 → Falling f
-
--- z lies between zero and the amount
-abbrev pub Toward : ℤ → ℤ → Type 0
-Toward amount z = (pos 0 ≤ℤ amount → (pos 0 ≤ℤ z) × (z ≤ℤ amount)) × (amount ≤ℤ pos 0 → (amount ≤ℤ z) × (z ≤ℤ pos 0))
 
 pub adds_up : (amount : ℤ) (f : ℕ → ℤ) → Cuts amount f → (ws : List ℕ) → sum_z (differences f 0 ws) +ℤ (amount -ℤ f (sum ws)) ≡ amount
 adds_up amount f c ws =

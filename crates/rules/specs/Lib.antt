@@ -10,6 +10,7 @@ pub mod Marginal
 pub mod Actions
 pub mod Around
 pub mod TalliesLemmas
+pub mod Cuts
 pub mod Differences
 pub mod Truncated
 pub mod UnitShares

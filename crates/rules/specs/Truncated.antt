@@ -9,11 +9,16 @@ use Rattle.amounts.specs.Arithmetic.{FractionDropped}
 use Rattle.amounts.proofs.Products.{times_zero, neg_times, add_times}
 use Rattle.amounts.proofs.Roundings.{fraction_dropped, div_bounds}
 use Rattle.rules.specs.SharingRules.{truncated, cut, running_shares, PrefixSumsTruncated}
-use Rattle.rules.specs.Differences.{Rising, Falling, Cuts, Toward, sum_front}
+use Rattle.rules.specs.Cuts.{Rising, Falling, Cuts, Toward}
+use Rattle.rules.specs.Differences.{sum_front}
 
 pub by_sign : (P : ℤ → Type 0) → ((n : ℕ) → P (pos n)) → ((n : ℕ) → P (neg_ℤ (pos n))) → (z : ℤ) → P z
 by_sign P f g (pos n) = f n
 by_sign P f g (negsuc n) = g (suc n)
+
+-- nothing over 0
+pub truncated_none : (n : ℤ) → truncated n 0 ≡ pos 0
+truncated_none n = refl
 
 pub truncated_is : (n : ℤ) (t : ℕ) → 0 < t → truncated n t ≡ int_div n (pos t)
 truncated_is n t p = ap (λ b. unwrap_or (cond b (Some (int_div n (pos t))) None) (pos 0)) (le-leb 1 t p)
@@ -39,6 +44,9 @@ cut_pos a t p h = truncated_is (pos a *ℤ pos p) t h
 cut_neg : (a t p : ℕ) → 0 < t → cut (neg_ℤ (pos a)) t p ≡ neg_ℤ (pos (a * p / t))
 cut_neg a t p h =
     ap (λ z. truncated z t) (neg_times (pos a) p) ∙ truncated_is (neg_ℤ (pos (a * p))) t h ∙ quot_neg (a * p) t
+
+pub cut_none : (amount : ℤ) (p : ℕ) → cut amount 0 p ≡ pos 0
+cut_none amount p = refl
 
 pub cut_start : (amount : ℤ) (t : ℕ) → cut amount t 0 ≡ pos 0
 cut_start amount zero = refl

@@ -2,7 +2,7 @@
 ghost use Rattle.std.specs.Prelude.{◌≡◌, ◌≤◌, ℕ, ℤ, ◌-ℤ◌, length, sum};
 ghost use Rattle.rules.specs.Sharing.{Shared, shared, is_sharing_question};
 ghost use Rattle.rules.specs.SharingRules.{differences};
-ghost use Rattle.rules.specs.Differences.{Cuts, Toward};
+ghost use Rattle.rules.specs.Cuts.{Cuts, Toward};
 
 use crate::division::Division;
 use crate::fault::RuleFault;

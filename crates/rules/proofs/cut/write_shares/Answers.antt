@@ -1,7 +1,8 @@
 use Rattle.std.proofs.Common.{◌≡◌, ℕ, ◌+◌, ◌<◌, List, length, get_or, take, ℤ, ◌-ℤ◌, sum, sym, ap, ◌∙◌, arith, rules, w64, SFits, to_z, of_z}
 use Rattle.std.proofs.lemmas.List.Sums.{sum_by_more, sum_by_more_le}
 use Rattle.rules.specs.SharingRules.{differences}
-use Rattle.rules.specs.Differences.{Cuts, Toward, differences_more, written_more}
+use Rattle.rules.specs.Cuts.{Cuts, Toward}
+use Rattle.rules.specs.Differences.{differences_more, written_more}
 use Rattle.rules.proofs.Fits.{gap_fits, passed_difference}
 use Rattle.rules.proofs.cut.write_shares.Goals as goal
 

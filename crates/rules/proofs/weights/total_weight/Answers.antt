@@ -1,12 +1,9 @@
-use Rattle.std.proofs.Common.{rules, ◌≡◌, ℕ, ◌<◌, ◌≤◌, true, List, length, sum, arith}
+use Rattle.std.proofs.Common.{rules, ◌≡◌, ◌<◌, ◌≤◌, true, length, sum, arith}
 use Rattle.std.specs.List.{All, list_all}
-use Rattle.std.proofs.lemmas.List.Sums.{sum_by-le, list_all-from_AllPass}
+use Rattle.std.proofs.lemmas.List.Sums.{list_all-from_AllPass}
 use Rattle.rules.specs.Sharing.{is_weight, is_weight_count}
+use Rattle.rules.proofs.Fits.{sum_small}
 use Rattle.rules.proofs.weights.total_weight.Goals as goal
-
--- what at most 32 weights within their limit add up to
-sum_small : (ws : List ℕ) → length ws ≤ 32 → All (λ w. w ≤ 2000000) ws → sum ws ≤ 64000000
-sum_small ws few each = omega (arith, sum_by-le (λ x. x) 2000000 ws each)
 
 pub sum-requires-clause-fits : goal.sum-requires-clause-fits
 sum-requires-clause-fits c =
