@@ -36,6 +36,7 @@ impl Division {
     }
 
     // What the rate gives a part of the total.
+    #[tactic(auto, using(crate::proofs::Fits::part_fits, crate::proofs::Fits::part_is))]
     pub(crate) fn by_rate(self, part: u32) -> i64
         requires { part ≤ self.total }
         ensures { result ≡ truncated self.amount self.total *ℤ pos part }
@@ -43,13 +44,22 @@ impl Division {
         self.rate * i64::from(part)
     }
 
+    // What is a part's of the rest, with its fraction dropped.
+    #[tactic(auto, using(crate::proofs::Fits::rests_fit))]
+    fn by_rest(self, part: u32) -> i64
+        requires { part ≤ self.total }
+        ensures { result ≡ truncated (self.rest *ℤ pos part) self.total }
+    {
+        let rests = self.rest * i64::from(part);
+        toward_zero(rests, i64::from(self.total)).unwrap_or(0)
+    }
+
     // What is a part's of the amount, with its fraction dropped: by rate and rest, so that no product leaves 64 bits.
+    #[tactic(auto, using(crate::proofs::Fits::split_fits, crate::proofs::Fits::split_is))]
     pub(crate) fn by_rate_and_rest(self, part: u32) -> i64
         requires { part ≤ self.total }
         ensures { result ≡ cut self.amount self.total part }
     {
-        let rests = self.rest * i64::from(part);
-        let of_rest = toward_zero(rests, i64::from(self.total)).unwrap_or(0);
-        self.by_rate(part) + of_rest
+        self.by_rate(part) + self.by_rest(part)
     }
 }
