@@ -7,6 +7,7 @@ ghost use Rattle.rules.specs.Sharing.{is_sharing_question};
 use crate::fault::RuleFault;
 use crate::price_rule::{CountedAction, DayPrices, PriceRule};
 use crate::sharing_rule::SharingRule;
+use crate::weights::total_weight;
 use amounts::amount::Price;
 use amounts::wire::WirePrice;
 
@@ -66,8 +67,8 @@ pub fn apportion<S: SharingRule>(
     ensures laws { (unshared : Unshared) → result ≡ Ok unshared → SharedByTheLaws amount weights.now (S.SharingRule.margin rule.now (sum weights.now)) into.new (S.SharingRule.remainder rule.now amount weights.now) }
 {
     let remainder = rule.share(amount, weights, into)?;
-    // Added up with no test: a rule that did not refuse has tested them.
-    Ok(unshared_by(weights.iter().sum(), remainder))
+    let total = total_weight(weights, into.len())?;
+    Ok(unshared_by(total, remainder))
 }
 
 // What remains, by the sum of the weights.

@@ -1,13 +1,10 @@
-use Rattle.std.proofs.Common.{rules, ◌≡◌, ℕ, true, eqb, leb, ◌<◌, ◌≤◌, List, length, ℤ, pos, negsuc, sum, sym, subst, arith, w64, SFits, to_z, of_z}
-use Rattle.std.specs.List.{All, list_all}
+use Rattle.std.proofs.Common.{rules, ◌≡◌, ℕ, true, eqb, List, length, ℤ, pos, negsuc, sum, sym, subst, arith, w64, SFits}
+use Rattle.std.specs.List.{All}
 use Rattle.std.proofs.lemmas.Int.{ints}
-use Rattle.std.proofs.lemmas.Bool.{and_parts, leb-true}
-use Rattle.std.proofs.lemmas.List.Elements.{All-weaker}
-use Rattle.std.proofs.lemmas.List.Sums.{AllPass-from_list_all}
+use Rattle.std.proofs.lemmas.Bool.{and_parts}
 use Rattle.amounts.proofs.Within.{between_yes}
 use Rattle.rules.specs.AnyRule.{SharedByTheLaws}
-use Rattle.rules.specs.Sharing.{Shareable, is_sharing_question, are_weights, is_weight_count, is_weight}
-use Rattle.rules.proofs.Fits.{sum_small}
+use Rattle.rules.specs.Sharing.{Shareable, is_sharing_question, are_weights}
 use Rattle.rules.proofs.any_rule.apportion.Goals as goal
 
 -- a question that was answered is one that a rule shares
@@ -16,37 +13,6 @@ shareable amount ws places f e = record {
   amount_fits = between_yes (negsuc 9223372036854775807) (pos 9223372036854775807) amount (omega (arith, ints)) (omega (arith, ints));
   weights_fit = (and_parts (are_weights ws) (eqb places (length ws)) e).0;
 }
-
--- and its weights add up within their bound
-weights_small : (ws : List ℕ) (places : ℕ) → is_sharing_question ws places ≡ true → sum ws ≤ 64000000
-weights_small ws places e =
-    let p = and_parts (is_weight_count (length ws)) (list_all is_weight ws) (and_parts (are_weights ws) (eqb places (length ws)) e).0 in
-    let few = and_parts (leb 1 (length ws)) (leb (length ws) 32) p.0 in
-    sum_small ws (leb-true (length ws) 32 few.1) (All-weaker (λ w. is_weight w ≡ true) (λ w. w ≤ 2000000) (λ w t. leb-true w 2000000 t) ws (AllPass-from_list_all is_weight ws p.1))
-
-pub sum-requires-clause-fits : goal.sum-requires-clause-fits
-sum-requires-clause-fits g c =
-    let ws = c.args.weights.now in
-    let places = length c.args.into.now in
-    let asked : is_sharing_question ws places ≡ true = search rules in
-    let fits : sum ws < 4294967296 = omega (arith, weights_small ws places asked) in
-    search rules
-
-pub unshared_by-requires : goal.unshared_by-requires
-unshared_by-requires g c =
-    let rule = c.args.rule.now in
-    let amount = c.args.amount in
-    let ws = c.args.weights.now in
-    let places = length c.args.into.now in
-    let asked : is_sharing_question ws places ≡ true = search rules in
-    let h = shareable amount ws places c.ranges.amount asked in
-    let total : c.sum.result ≡ sum ws = search rules in
-    let remainder : to_z w64 (of_z w64 c.in_ok-remainder.remainder) ≡ g.S.SharingRule.remainder rule amount ws = search rules in
-    λ some.
-    let p : 0 < sum ws = omega (arith, some, total) in
-    let m = g.met.S.SharingRule.remainder_within_margin rule amount ws h p in
-    let b = g.met.S.SharingRule.margin_below_total rule (sum ws) p in
-    rw remainder (omega (arith, m, b, p, weights_small ws places asked))
 
 pub returns-clause-laws : goal.returns-clause-laws
 returns-clause-laws g c =
